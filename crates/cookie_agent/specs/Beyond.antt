@@ -6,7 +6,7 @@ use Rattle.std.specs.Str.{bytes_eq}
 use Rattle.jiff.specs.Types.{DateTime}
 use Rattle.jiff.specs.Words.{civil_nanos}
 use Rattle.cookie.specs.Header.{joined_texts}
-use Rattle.cookie_browser.specs.Beyond.{is_partitioned, refusal_beyond}
+use Rattle.cookie_browser.specs.Beyond.{is_partitioned, refusal_beyond, with_ascii_domain}
 use Rattle.cookie_browser.specs.Received.{ReceivedView, received}
 use Rattle.cookie_browser.specs.Request.{RequestView}
 use Rattle.cookie_browser.specs.Storage.{KeptView, CookieStore, is_same_cookie, lasting, lasts, suits, verdict_on}
@@ -70,15 +70,22 @@ abbrev pub unless_beyond : Option Beyond → Result DatedView BrowserRefusal
 unless_beyond (Some why) verdict = Err (refusal.Beyond why)
 unless_beyond None verdict = verdict
 
--- the verdict on what a text is received as. A partitioned cookie is secure-only, so it overlays none and none overlays it
-abbrev pub browser_verdict_on : BrowserAgentView → RequestView → List ℕ → DateTime → List ℕ
-    → Result ReceivedView Refusal → Result DatedView BrowserRefusal
-browser_verdict_on agent site top now text (Err why) = Err (refusal.Standard why)
-browser_verdict_on agent site top now text (Ok cookie) =
+-- the verdict on a received cookie whose domain is as the choices read it. A partitioned cookie is secure-only, so it
+-- overlays none and none overlays it
+abbrev pub browser_verdict_of : BrowserAgentView → RequestView → List ℕ → DateTime → List ℕ
+    → ReceivedView → Result DatedView BrowserRefusal
+browser_verdict_of agent site top now text cookie =
     unless_beyond (refusal_beyond agent.choices text cookie)
     (dated_as now (partition_of agent.choices top text)
     (verdict_on agent.rules site now (lasting now (undated (unpartitioned agent.cookies)))
     (Ok cookie)))
+
+-- the verdict on what a text is received as
+abbrev pub browser_verdict_on : BrowserAgentView → RequestView → List ℕ → DateTime → List ℕ
+    → Result ReceivedView Refusal → Result DatedView BrowserRefusal
+browser_verdict_on agent site top now text (Err why) = Err (refusal.Standard why)
+browser_verdict_on agent site top now text (Ok cookie) =
+    browser_verdict_of agent site top now text (with_ascii_domain agent.choices cookie)
 
 -- the cookie that is stored, or the refusal
 abbrev pub browser_verdict : BrowserAgentView → RequestView → List ℕ → DateTime → List ℕ

@@ -16,6 +16,7 @@ standard_choices =
       refuses_tabs = false;
       refuses_nameless_pairs = false;
       refuses_dot_domains = false;
+      reads_internationalized_domains = false;
       asks_written_host_prefix = false;
       renews_changed = false;
       sends_unsafe_for_two_minutes = false;

@@ -4,7 +4,7 @@ ghost use Rattle.std.specs.List.{list_any};
 ghost use Rattle.cookie_browser.specs.ReceivedCode.{received_view};
 ghost use Rattle.cookie_browser.specs.RefusedCode.{kept_view, request_view};
 ghost use Rattle.cookie_browser.specs.Storage.{lasting, overlays, verdict_on};
-ghost use Rattle.cookie_agent.specs.Beyond.{IsHeaderOf, accessed_beyond, browser_after_text, browser_refusal_of, browser_verdict, browser_verdict_on, cookies_at_site, dated_lasting, dated_with, is_among, is_changed_by, partition_of, placed, renewed, site_limits, staying_at_site, undated, unpartitioned, visible_beyond, without_excess, without_expired};
+ghost use Rattle.cookie_agent.specs.Beyond.{IsHeaderOf, accessed_beyond, browser_after_text, browser_refusal_of, browser_verdict, browser_verdict_of, browser_verdict_on, cookies_at_site, dated_lasting, dated_with, is_among, is_changed_by, partition_of, placed, renewed, site_limits, staying_at_site, undated, unpartitioned, visible_beyond, without_excess, without_expired};
 ghost use Rattle.cookie_agent.specs.BeyondCode.{is_overlaid_dated};
 ghost use Rattle.cookie_agent.specs.Limits.{trimmed};
 ghost use Rattle.cookie_agent.specs.SentCode.{targets};
@@ -21,8 +21,8 @@ use crate::store::Store;
 use crate::stored::StoredCookie;
 use crate::verdict::Verdict;
 use cookie_browser::{
-    BrowserChoices, BrowserRequest, Expiry, KeptCookie, Received, Suffixes, is_partitioned,
-    refused_beyond, refused_with,
+    BrowserChoices, BrowserRequest, Expiry, KeptCookie, Received, ReceivedAttributes, Suffixes,
+    ascii_domain, is_partitioned, refused_beyond, refused_with,
 };
 use jiff::civil::DateTime;
 use std::alloc::{AllocError, Global};
@@ -138,6 +138,27 @@ impl<'r> BrowserAgent<'r> {
         ensures { IfOk result (λ verdict. verdict
             ≡ browser_verdict_on self.now site.now top.now now text.now
             (Ok (received_view received.now))) }
+    {
+        let ascii = ascii_domain(self.alloc, self.choices, received.attributes.domain)?;
+        let domain = match &ascii {
+            Some(domain) => domain.as_bytes(),
+            None => received.attributes.domain,
+        };
+        self.verdict_of(site, top, text, &with_domain(received, domain), now)
+    }
+
+    // The same, where the domain is as the choices read it.
+    fn verdict_of(
+        &self,
+        site: &Site,
+        top: &[u8],
+        text: &[u8],
+        received: &Received<'_>,
+        now: DateTime,
+    ) -> Result<Result<BrowserCookie, BrowserRefusal>, AllocError>
+        ensures { IfOk result (λ verdict. verdict
+            ≡ browser_verdict_of self.now site.now top.now now text.now
+            (received_view received.now)) }
     {
         if let Some(why) = refused_beyond(self.choices, text, received) {
             return Ok(Err(BrowserRefusal::Beyond(why)));
@@ -316,6 +337,22 @@ fn is_among(left: &[StoredCookie], cookie: &BrowserCookie) -> bool
     ensures { result ≡ is_among left.now cookie.now }
 {
     left.iter().any(|stored| cookie.is_one_with(stored))
+}
+
+// The received cookie, with another domain.
+fn with_domain<'t, 'r: 't>(received: &Received<'r>, domain: &'t [u8]) -> Received<'t>
+    ensures { received_view result ≡ record (received_view received.now) {
+      attributes = record (received_view received.now).attributes { domain = domain.now };
+    } }
+{
+    Received {
+        name: received.name,
+        value: received.value,
+        attributes: ReceivedAttributes {
+            domain,
+            ..received.attributes
+        },
+    }
 }
 
 // The standard's verdict on a received cookie, beside these stored ones.

@@ -1,7 +1,7 @@
 -- Where a text is cut, by the place of the first mark.
-use Rattle.std.proofs.Common.{◌≡◌, ◌≢◌, ℕ, suc, ◌+◌, ◌<◌, ◌≤◌, ◌==◌, ◌||◌, Bool, true, false, cond, List, [], ◌∷◌, ◌++◌, length, get_or, take, drop, Option, Some, None, refl, sym, ap, ◌∙◌, arith, take-append-drop}
+use Rattle.std.proofs.Common.{◌≡◌, ◌≢◌, ℕ, suc, ◌+◌, ◌<◌, ◌≤◌, ◌==◌, Bool, true, false, cond, List, [], ◌∷◌, ◌++◌, length, get_or, take, drop, Option, Some, None, refl, sym, ap, ◌∙◌, arith, take-append-drop}
 use Rattle.std.proofs.lemmas.List.{drop_more, get_or-take, length-take-le}
-use Rattle.std.specs.List.{list_any, onto_first, slice_split}
+use Rattle.std.specs.List.{onto_first, slice_split}
 use Rattle.cookie_core.specs.Pieces.{Lacks, pieces}
 use Rattle.cookie_browser.specs.Bytes.{cut}
 use Rattle.cookie_browser.specs.Received.{pieces_after}
@@ -42,10 +42,6 @@ pieces-first xs = slice_split-cut 59 xs ∙ ap (λ ps. (cut 59 xs).0 ∷ ps) (af
     after : (o : Option (List ℕ)) → pieces_at 59 o ≡ pieces_after o
     after None = refl
     after (Some t) = refl
-
--- whether a piece passes: the first one, or a later one
-pub any-first : (p : List ℕ → Bool) (xs : List ℕ) → list_any p (pieces xs) ≡ (p (cut 59 xs).0 || list_any p (pieces_after (cut 59 xs).1))
-any-first p xs = ap (list_any p) (pieces-first xs)
 
 -- what is left is shorter
 abbrev pub left_length : Option (List ℕ) → ℕ

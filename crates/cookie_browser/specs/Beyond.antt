@@ -1,16 +1,42 @@
--- What Chromium does beyond RFC 6265bis, as the caller chooses: which cookies it refuses, and which it keeps by top-level
--- site.
-use Rattle.std.specs.Prelude.{ℕ, ◌==◌, ◌&&◌, ◌||◌, not, Bool, nat_le, List, [], length, codes, Option, Some, None, if◌then◌else◌}
+-- What Chromium does beyond RFC 6265bis, as the caller chooses: how it reads a domain, which cookies it refuses, and which
+-- it keeps by top-level site.
+use Rattle.std.specs.Prelude.{ℕ, ◌==◌, ◌&&◌, ◌||◌, not, Bool, nat_le, List, [], ◌∷◌, length, drop, codes, Option, Some, None, unwrap_or, if◌then◌else◌}
 use Rattle.std.specs.List.{list_any}
 use Rattle.std.specs.Str.{bytes_eq}
+use Rattle.idna.specs.Uts46.{domain_to_ascii}
+use Rattle.idna.specs.declared.deny_list.TheConstants.AsciiDenyList.{URL}
 use Rattle.cookie_core.specs.Pieces.{pieces}
-use Rattle.cookie_core.specs.Separators.{equals_sign, semicolon}
-use Rattle.cookie_browser.specs.Bytes.{cut}
-use Rattle.cookie_browser.specs.Received.{ReceivedView, attribute_name, attribute_value, pieces_after, spells}
-use Rattle.cookie_browser.specs.Storage.{has_host_prefix}
+use Rattle.cookie_core.specs.Separators.{equals_sign}
+use Rattle.cookie_browser.specs.Received.{ReceivedView, attribute_name, attribute_value, spells}
+use Rattle.cookie_browser.specs.Storage.{has_host_prefix, is_ascii}
 use Rattle.cookie_browser.specs.declared.browser_choices.BrowserChoices.{BrowserChoices}
 use Rattle.cookie_browser.specs.declared.beyond.Beyond.{Beyond}
 use Rattle.cookie_browser.specs.declared.beyond.Beyond.TheVariants as beyond
+
+-- the text, unless it is empty
+abbrev pub unless_empty : Option (List ℕ) → Option (List ℕ)
+unless_empty None = None
+unless_empty (Some []) = None
+unless_empty (Some (byte ∷ bytes)) = Some (byte ∷ bytes)
+
+-- The value of a `Domain` attribute as ASCII, if it isn't ASCII and the choices have it read as an internationalized name:
+-- ToASCII (UTS 46, 4.2), which ends in the A-labels of RFC 5891, 5.5. The flags and the characters that no name has are
+-- those of the URL Standard ("domain to ASCII", beStrict false). `None` also of what isn't such a name, or is no label.
+abbrev pub ascii_domain : BrowserChoices → List ℕ → Option (List ℕ)
+ascii_domain choices domain =
+    if choices.reads_internationalized_domains && not (is_ascii domain)
+    then unless_empty (domain_to_ascii URL domain) else None
+
+-- The received cookie, with its domain read so. A domain that can't be read stays, and the standard refuses it, since it
+-- isn't ASCII (The Domain Attribute; Storage Model).
+abbrev pub with_ascii_domain : BrowserChoices → ReceivedView → ReceivedView
+with_ascii_domain choices cookie =
+    record cookie {
+      attributes = record cookie.attributes {
+        domain = unwrap_or (ascii_domain choices cookie.attributes.domain)
+            cookie.attributes.domain;
+      };
+    }
 
 -- the text has this byte
 abbrev pub has_byte : ℕ → List ℕ → Bool
@@ -49,9 +75,9 @@ is_partition_mark piece =
     spells (attribute_name piece) (codes "partitioned")
     && nat_le (length (attribute_value piece)) 1024
 
--- the text has the attribute `Partitioned`, which the standard doesn't know (CHIPS)
+-- the text has the attribute `Partitioned` after its first piece, which the standard doesn't know (CHIPS)
 abbrev pub is_partitioned : List ℕ → Bool
-is_partitioned text = list_any is_partition_mark (pieces_after (cut semicolon text).1)
+is_partitioned text = list_any is_partition_mark (drop 1 (pieces text))
 
 -- the refusal if the test holds, and else the later one
 abbrev pub beyond_if : Bool → Beyond → Option Beyond → Option Beyond

@@ -1,9 +1,8 @@
 //! What browsers refuse beyond the standard.
-ghost use Rattle.std.specs.Prelude.{◌≡◌, ◌&&◌, not, option_copied};
-ghost use Rattle.std.specs.List.{list_any};
+ghost use Rattle.std.specs.Prelude.{◌≡◌, ◌&&◌, not};
 ghost use Rattle.cookie_browser.specs.Beyond as spec;
 ghost use Rattle.cookie_browser.specs.Beyond.{has_byte};
-ghost use Rattle.cookie_browser.specs.Received.{attribute_name, attribute_value, pieces_after, spells};
+ghost use Rattle.cookie_browser.specs.Received.{attribute_name, attribute_value, spells};
 ghost use Rattle.cookie_browser.specs.ReceivedCode.{received_view};
 
 use crate::attributes::{spells, value_of};
@@ -52,22 +51,7 @@ fn has_inner_tab(piece: &[u8]) -> bool
 fn has_tab(text: &[u8]) -> bool
     ensures { result ≡ spec.has_tab text.now }
 {
-    any_inner_tab(Some(text))
-}
-
-// Whether a piece of the text, if there is one, has a tab inside.
-fn any_inner_tab(rest: Option<&[u8]>) -> bool
-    ensures { result ≡ list_any spec.has_inner_tab (pieces_after (option_copied rest.entry)) }
-{
-    let mut rest = rest;
-    while let Some(text) = rest {
-        let (piece, after) = cut(text, b';');
-        if has_inner_tab(piece) {
-            return true;
-        }
-        rest = after;
-    }
-    false
+    text.split(|&byte| byte == b';').any(has_inner_tab)
 }
 
 fn is_nameless_pair(received: &Received<'_>) -> bool
@@ -106,23 +90,9 @@ fn is_partition_mark(piece: &[u8]) -> bool
 pub fn is_partitioned(text: &[u8]) -> bool
     ensures { result ≡ spec.is_partitioned text.now }
 {
-    let (_pair, rest) = cut(text, b';');
-    any_partition_mark(rest)
-}
-
-// Whether a piece of the text, if there is one, is the attribute `Partitioned`.
-fn any_partition_mark(rest: Option<&[u8]>) -> bool
-    ensures { result ≡ list_any spec.is_partition_mark (pieces_after (option_copied rest.entry)) }
-{
-    let mut rest = rest;
-    while let Some(text) = rest {
-        let (piece, after) = cut(text, b';');
-        if is_partition_mark(piece) {
-            return true;
-        }
-        rest = after;
-    }
-    false
+    text.split(|&byte| byte == b';')
+        .skip(1)
+        .any(is_partition_mark)
 }
 
 /// The first of the choices that refuses the text of a `Set-Cookie` header, or `None`. `received` is what it is received

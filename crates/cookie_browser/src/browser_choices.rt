@@ -13,6 +13,9 @@ pub struct BrowserChoices {
     pub refuses_nameless_pairs: bool,
     /// `Domain=.` is refused. In the standard that is no domain (The Domain Attribute).
     pub refuses_dot_domains: bool,
+    /// A `Domain` that isn't ASCII is read as an internationalized name, as `公司.cn` (UTS 46; RFC 5891). The standard
+    /// refuses it (Storage Model).
+    pub reads_internationalized_domains: bool,
     /// A name that begins with `__Host-` requires the text `Path=/`, and no `Domain` or an empty one. The standard
     /// requires a path that comes to `/`, and a host-only cookie (Cookie Name Prefixes).
     pub asks_written_host_prefix: bool,
@@ -34,6 +37,7 @@ impl BrowserChoices {
           refuses_tabs = false;
           refuses_nameless_pairs = false;
           refuses_dot_domains = false;
+          reads_internationalized_domains = false;
           asks_written_host_prefix = false;
           renews_changed = false;
           sends_unsafe_for_two_minutes = false;
@@ -44,6 +48,7 @@ impl BrowserChoices {
             refuses_tabs: false,
             refuses_nameless_pairs: false,
             refuses_dot_domains: false,
+            reads_internationalized_domains: false,
             asks_written_host_prefix: false,
             renews_changed: false,
             sends_unsafe_for_two_minutes: false,
@@ -57,6 +62,7 @@ impl BrowserChoices {
           refuses_tabs = true;
           refuses_nameless_pairs = true;
           refuses_dot_domains = true;
+          reads_internationalized_domains = true;
           asks_written_host_prefix = true;
           renews_changed = true;
           sends_unsafe_for_two_minutes = true;
@@ -67,6 +73,7 @@ impl BrowserChoices {
             refuses_tabs: true,
             refuses_nameless_pairs: true,
             refuses_dot_domains: true,
+            reads_internationalized_domains: true,
             asks_written_host_prefix: true,
             renews_changed: true,
             sends_unsafe_for_two_minutes: true,

@@ -1,6 +1,7 @@
 //! Small steps on bytes.
 ghost use Rattle.std.specs.Prelude.{◌≡◌, option_copied};
 ghost use Rattle.cookie_browser.specs.Bytes as spec;
+ghost use Rattle.cookie_browser.specs.Storage.{is_ascii};
 
 // The text before the first `mark`, or all of it, and the text after that mark, if there is one.
 pub(crate) fn cut(text: &[u8], mark: u8) -> (&[u8], Option<&[u8]>)
@@ -11,4 +12,10 @@ pub(crate) fn cut(text: &[u8], mark: u8) -> (&[u8], Option<&[u8]>)
         Some(at) => (&text[..at], Some(&text[at + 1..])),
         None => (text, None),
     }
+}
+
+pub(crate) fn is_ascii(text: &[u8]) -> bool
+    ensures { result ≡ is_ascii text.now }
+{
+    text.iter().all(|&byte| byte < 128)
 }

@@ -9,6 +9,7 @@ ghost use Rattle.cookie_browser.specs.Storage.{CookieStore};
 ghost use Rattle.cookie_browser.specs.ReceivedCode.{received_view};
 ghost use Rattle.cookie_browser.specs.RefusedCode.{kept_view, request_view};
 
+use crate::bytes::is_ascii;
 use crate::enforcement::Enforcement;
 use crate::kept_cookie::KeptCookie;
 use crate::received::Received;
@@ -21,12 +22,6 @@ pub(crate) fn is_site_bound(enforcement: Enforcement) -> bool
     ensures { result ≡ spec.is_site_bound enforcement }
 {
     !matches!(enforcement, Enforcement::None)
-}
-
-fn is_ascii(text: &[u8]) -> bool
-    ensures { result ≡ spec.is_ascii text.now }
-{
-    text.iter().all(|&byte| byte < 128)
 }
 
 fn is_empty_pair(received: &Received<'_>) -> bool

@@ -12,7 +12,8 @@ ghost use Rattle.cookie_browser.specs.SuffixList.{canonical, rule_of, rules_of};
 ghost use Rattle.cookie_browser.specs.SuffixCode.{texts_of};
 
 use crate::bytes::cut;
-use idna::{AsciiDenyList, Errors, domain_to_ascii_cow};
+use crate::domain::to_ascii;
+use idna::AsciiDenyList;
 use std::alloc::{AllocError, Global};
 use std::collections::HashSet;
 use std::marker::Model;
@@ -218,11 +219,7 @@ fn is_no_rule(text: &[u8]) -> bool
 fn canonical(alloc: Global, labels: &[u8]) -> Result<Option<String>, AllocError>
     ensures { IfOk result (λ text. option_map string_bytes text ≡ canonical labels.now) }
 {
-    match domain_to_ascii_cow(alloc, without_last_dot(labels), AsciiDenyList::EMPTY) {
-        Ok(text) => Ok(Some(text.into_owned(alloc)?)),
-        Err(Errors::Invalid) => Ok(None),
-        Err(Errors::OutOfMemory) => Err(AllocError),
-    }
+    to_ascii(alloc, without_last_dot(labels), AsciiDenyList::EMPTY)
 }
 
 // Adds the labels in their canonical form, if they have one.

@@ -2,7 +2,6 @@
 #![tactic(auto)]
 
 mod address;
-mod attribute;
 mod bytes;
 mod error;
 mod paste;

@@ -1,7 +1,6 @@
 //! What is said of a text.
-use crate::attribute::is_partitioned;
 use cookie_agent::{StoredCookie, Verdict};
-use cookie_browser::{Enforcement, Expiry, KeptCookie, Refusal};
+use cookie_browser::{Enforcement, Expiry, KeptCookie, Refusal, is_partitioned};
 use cookie_date::DateText;
 use jiff::civil::DateTime;
 use std::alloc::{AllocError, Global};
