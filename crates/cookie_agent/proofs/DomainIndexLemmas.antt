@@ -1,14 +1,12 @@
 -- The numbers at a domain, which stand in a map under its reverse.
-use Rattle.std.proofs.Common.{◌≡◌, ℕ, zero, suc, nat_eq, ◌+◌, ◌<◌, ◌==◌, ◌&&◌, Bool, true, false, cond, List, [], ◌∷◌, ◌++◌, length, take, get_or, reverse, Option, Some, None, bytes_eq, option_map, unwrap_or, refl, sym, ap, subst, ◌∙◌, inl, inr, ◌⊎◌, ⊎_elim, arith, Vec, Global}
+use Rattle.std.proofs.Common.{◌≡◌, ℕ, zero, suc, ◌+◌, ◌<◌, ◌==◌, ◌&&◌, Bool, true, false, cond, List, [], ◌∷◌, ◌++◌, length, take, get_or, reverse, Option, Some, None, bytes_eq, option_map, unwrap_or, refl, sym, ap, subst, ◌∙◌, inl, inr, ◌⊎◌, ⊎_elim, arith, Vec, Global}
 use Rattle.std.proofs.lemmas.Bool.{false≢true, and_parts, or_cases}
 use Rattle.std.proofs.lemmas.List.{append_assoc, get_or_at, length-append, reverse-append, take_at}
 use Rattle.std.proofs.lemmas.List.Elements.{Contains-append_right}
 use Rattle.std.proofs.lemmas.Slice.Eq.{bytes_eq-Decides}
 use Rattle.std.specs.BTreeMap.{BTreeMap, insert_entry}
 use Rattle.std.specs.Cmp.Lexicographic.{slice_cmp, texts_ties}
-use Rattle.std.proofs.lemmas.Map.Views.{list_any-from_Contains}
-use Rattle.std.proofs.lemmas.Cmp.{nat_eq_equiv}
-use Rattle.std.specs.List.{Contains, filter, list_any}
+use Rattle.std.specs.List.{Contains, filter}
 use Rattle.std.specs.Map.{lookup, set_value}
 use Rattle.std.specs.Ordering.{is_eq, is_le, match_ordering, nat_cmp, ordering_then}
 use Rattle.std.specs.Cmp.{Equal-is, unsigned_ties}
@@ -197,20 +195,17 @@ above-all index key domain found is whole dots other n inside listed =
     (subst (λ l. IsNumberAt index l n) (sym (ap (λ (l : List ℕ). take k l) parts ∙ take_at (reverse other) (46 ∷ below.0) k refl)) listed))
     (in_domain-reverse domain other inside)
 
--- a number that is live passes
-pub Contains-live : (live ns : List ℕ) (n : ℕ) → Contains live n → Contains ns n → Contains (filter (λ m. list_any (nat_eq m) live) ns) n
-Contains-live live ns n alive (k, below, is) = by ns k below is
+-- a number that passes is left
+pub Contains-passing : (test : ℕ → Bool) (ns : List ℕ) (n : ℕ) → test n ≡ true → Contains ns n → Contains (filter test ns) n
+Contains-passing test ns n passes (k, below, is) = by ns k below is
   where
-    passes : list_any (nat_eq n) live ≡ true
-    passes = list_any-from_Contains {eq = nat_eq} nat_eq_equiv n live alive
-
-    by : (ms : List ℕ) (j : ℕ) → j < length ms → get_or ms j n ≡ n → Contains (filter (λ m. list_any (nat_eq m) live) ms) n
+    by : (ms : List ℕ) (j : ℕ) → j < length ms → get_or ms j n ≡ n → Contains (filter test ms) n
     by [] j lt e = absurd (omega (arith, lt))
     by (m ∷ ms) zero lt e =
-        subst (λ x. Contains (cond (list_any (nat_eq x) live) (x ∷ filter (λ m. list_any (nat_eq m) live) ms) (filter (λ m. list_any (nat_eq m) live) ms)) n) (sym e)
-        (subst (λ b. Contains (cond b (n ∷ filter (λ m. list_any (nat_eq m) live) ms) (filter (λ m. list_any (nat_eq m) live) ms)) n) (sym passes) (0, omega arith, refl))
-    by (m ∷ ms) (suc j) lt e = onto (list_any (nat_eq m) live) (by ms j (omega (arith, lt)) e)
+        subst (λ x. Contains (cond (test x) (x ∷ filter test ms) (filter test ms)) n) (sym e)
+        (subst (λ b. Contains (cond b (n ∷ filter test ms) (filter test ms)) n) (sym passes) (0, omega arith, refl))
+    by (m ∷ ms) (suc j) lt e = onto (test m) (by ms j (omega (arith, lt)) e)
       where
-        onto : (b : Bool) → Contains (filter (λ m. list_any (nat_eq m) live) ms) n → Contains (cond b (m ∷ filter (λ m. list_any (nat_eq m) live) ms) (filter (λ m. list_any (nat_eq m) live) ms)) n
-        onto true rest = Contains-append_right (m ∷ []) (filter (λ m. list_any (nat_eq m) live) ms) n rest
+        onto : (b : Bool) → Contains (filter test ms) n → Contains (cond b (m ∷ filter test ms) (filter test ms)) n
+        onto true rest = Contains-append_right (m ∷ []) (filter test ms) n rest
         onto false rest = rest

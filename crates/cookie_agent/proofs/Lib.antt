@@ -33,6 +33,7 @@ pub mod SavedFormLemmas
 pub mod SavedLemmas
 pub mod SentFieldLemmas
 pub mod SiteLemmas
+pub mod SlotLemmas
 pub mod StorableLemmas
 pub mod StoreLemmas
 pub mod StoringLemmas

@@ -6,7 +6,7 @@ use Rattle.jiff.specs.Types.{DateTime}
 use Rattle.jiff.specs.Words.{civil_nanos}
 use Rattle.cookie_browser.specs.Storage.{KeptView, CookieStore, is_same_cookie, lasts}
 use Rattle.cookie_browser.specs.declared.enforcement.Enforcement.TheVariants as enforcement
-use Rattle.cookie_agent.specs.RowsCode.{AreRows}
+use Rattle.cookie_agent.specs.RowsCode.{AreRows, held}
 use Rattle.cookie_agent.specs.Stored.{IsApart}
 use Rattle.cookie_agent.specs.declared.key.Key.{Key}
 use Rattle.cookie_agent.specs.declared.rows.Rows.{Rows}
@@ -45,6 +45,6 @@ IsFreshUntil end cookie =
 
 -- what a store knows of its cookies: no two are the same, each is found, and none is expired before the time
 pub record AreStored (stored : Rows) (fresh_until : ℤ) : Type 0 where
-  pub apart : IsApart stored.cookies.items
+  pub apart : IsApart (held stored.slots.items)
   pub rows : AreRows stored
-  pub fresh : All (IsFreshUntil fresh_until) stored.cookies.items
+  pub fresh : All (IsFreshUntil fresh_until) (held stored.slots.items)

@@ -15,7 +15,7 @@ ghost use Rattle.cookie_agent.specs.Store.{agent_after_text, agent_verdict, refu
 ghost use Rattle.cookie_agent.specs.Stored.{is_named_in, is_of_domain};
 ghost use Rattle.cookie_agent.specs.VerdictCode.{verdict_result};
 
-use crate::header::{by_path, joined_pairs, visible};
+use crate::cookies::Cookies;
 use crate::limits::Limits;
 use crate::scope::Scope;
 use crate::site::Site;
@@ -180,10 +180,7 @@ impl<'r> Agent<'r> {
         ensures only_own { AreOnlyOwn }
         ensures own_originals { AreOwnOriginals }
     {
-        let places = self.store.places(site.host())?;
-        let sent = visible(self.store.alloc(), self.store.cookies(), &places, site, now)?;
-        let sent = by_path(sent)?;
-        joined_pairs(self.store.alloc(), &sent)
+        self.store.header(site, now)
     }
 
     /// Does what [`header`](Agent::header) says, for a request that is made: `now` becomes the last access of each
@@ -196,9 +193,7 @@ impl<'r> Agent<'r> {
             ≡ record self.old { cookies = map (accessed site.now now) self.old.cookies }) }
         ensures err { OnErr result (self.new ≡ self.old) }
     {
-        let header = self.header(site, now)?;
-        self.store.access(site, now);
-        Ok(header)
+        self.store.retrieve(site, now)
     }
 
     /// Drops what is expired at the time `now` in UTC, and then the cookies above the limits, as [`Store::trim`] says.
@@ -245,8 +240,8 @@ impl<'r> Agent<'r> {
     }
 
     /// The cookies that it stores, in the order of their creation. Some may be expired.
-    pub fn cookies(&self) -> &[StoredCookie]
-        ensures { result.now ≡ self.now.cookies }
+    pub fn cookies(&self) -> Cookies<'_>
+        ensures { result ≡ self.now.cookies }
     {
         self.store.cookies()
     }
@@ -265,25 +260,25 @@ impl<'r> Agent<'r> {
 // Whether the new cookie would overlay one that isn't expired.
 #[tactic(auto, using(crate::proofs::RefusalLemmas::any_lasting))]
 fn overlays(
-    cookies: &[StoredCookie],
+    cookies: Cookies<'_>,
     request: &BrowserRequest<'_>,
     new: &KeptCookie<'_>,
     now: DateTime,
 ) -> bool
     ensures { result
-        ≡ overlays (request_view request.now) (lasting now cookies.now) (kept_view new.now) }
+        ≡ overlays (request_view request.now) (lasting now cookies.entry) (kept_view new.now) }
 {
     !new.is_secure_only && !request.is_secure && any_overlaid(cookies, request, new, now)
 }
 
 fn any_overlaid(
-    cookies: &[StoredCookie],
+    mut cookies: Cookies<'_>,
     request: &BrowserRequest<'_>,
     new: &KeptCookie<'_>,
     now: DateTime,
 ) -> bool
     ensures { result ≡ list_any (λ old. lasts old.expiry now
-        && is_overlaid (request_view request.now) (kept_view new.now) old) cookies.now }
+        && is_overlaid (request_view request.now) (kept_view new.now) old) cookies.entry }
 {
-    cookies.iter().any(|old| old.as_kept().is_overlaid_by(new, request) && old.lasts(now))
+    cookies.any(|old| old.as_kept().is_overlaid_by(new, request) && old.lasts(now))
 }

@@ -1,27 +1,41 @@
--- The cookies that stay keep their numbers.
-use Rattle.std.proofs.Common.{◌≡◌, ◌<◌, ◌∙◌, All, Bool, filter, length, rules, sym, ap, subst}
-use Rattle.std.proofs.lemmas.Fn.{filter_same}
-use Rattle.cookie_browser.specs.Storage.{CookieStore, KeptView}
-use Rattle.cookie_agent.specs.RowsCode.{AreListed, keeps, numbers_left}
-use Rattle.cookie_agent.proofs.RowLemmas.{All-numbers_left, listed-left, rows-long}
+-- One more cookie stays, or goes.
+use Rattle.std.proofs.Common.{◌+◌, None, Some, Bool, cond, sym, ap, subst, ◌∙◌, arith}
+use Rattle.cookie_browser.specs.Storage.{KeptView}
+use Rattle.cookie_agent.specs.RowsCode.{Slots, keeps, slot_at}
+use Rattle.cookie_agent.proofs.SlotLemmas.{IsSwept, left, swept-all, swept-none, swept-out, swept-stay}
 use Rattle.cookie_agent.proofs.rows.Rows.sweep.Goals as goal
+use Rattle.cookie_agent.proofs.rows.Rows.sweep.Goals.{in-Some+then-not-keeps, in-Some+else-not-keeps, in_default}
 
-pub sweep_numbers-requires : goal.sweep_numbers-requires
-sweep_numbers-requires c = rows-long c.args.self.now c.requires ∙ sym (ap (λ (cs : CookieStore). length cs) c.deref.ensures.value)
+pub loop-place-init : goal.loop-place-init
+loop-place-init c = record {
+  rows = c.requires;
+  swept = swept-none (keeps c.args.sweep.now) c.args.self.now.slots.items;
+}
+
+pub loop-place-preserved : goal.loop-place-preserved
+loop-place-preserved c =
+    let test : KeptView → Bool = keeps c.args.sweep.now in
+    let old : Slots = c.args.self.now.slots.items in
+    let now : Slots = c.loop-place.self.slots.items in
+    let p = c.loop-place.place in
+    let so = c.loop-place.invariant in
+    let deref = ap (λ (s : Slots). slot_at s p) (sym c.deref.ensures.value) in
+    elim c.match-cookie_in.branch [
+      | in-Some+then-not-keeps w ↦ rw w.self-is (record {
+        rows = w.remove.ensures.rows;
+        swept = subst (λ (s : Slots). IsSwept test old s (p + 1)) (sym w.remove.ensures.slots)
+            (swept-out test old now p w.in-Some.cookie.now so.swept (deref ∙ w.in-Some.ensures) (sym w.keeps.ensures ∙ w.if-not-keeps.true));
+      })
+      | in-Some+else-not-keeps w ↦ rw w.self-is (record {
+        rows = so.rows;
+        swept = swept-stay test old now p so.swept (ap (left test) (deref ∙ w.in-Some.ensures) ∙ ap (λ b. cond b (Some w.in-Some.cookie.now) None) (sym w.keeps.ensures ∙ w.if-not-keeps.false) ∙ sym (deref ∙ w.in-Some.ensures));
+      })
+      | in_default w ↦ rw w.self-is (record {
+        rows = so.rows;
+        swept = swept-stay test old now p so.swept (ap (left test) (deref ∙ w.in_default.ensures) ∙ sym (deref ∙ w.in_default.ensures));
+      })
+    ]
 
 pub returns-clause-cookies : goal.returns-clause-cookies
-returns-clause-cookies c = filter_same _ (keeps c.args.sweep.now) _ (λ x b f h. search rules) _ _ c.retain.ensures.filtered
-
-pub returns-clause-rows : goal.returns-clause-rows
-returns-clause-rows c =
-    let rows = c.args.self.now in
-    let cookies : CookieStore = rows.cookies.items in
-    let test : KeptView → Bool = keeps c.args.sweep.now in
-    let left : c.retain.new.self.items ≡ filter test cookies = filter_same _ test _ (λ x b f h. search rules) _ _ c.retain.ensures.filtered in
-    let numbers : c.sweep_numbers.new.numbers.items ≡ numbers_left test rows.numbers.items cookies
-    = c.sweep_numbers.ensures ∙ ap (λ (cs : CookieStore). numbers_left test rows.numbers.items cs) c.deref.ensures.value in
-    record {
-      listed = subst (λ (cs : CookieStore). AreListed rows.index 0 c.sweep_numbers.new.numbers.items cs) (sym left)
-          (subst (λ ns. AreListed rows.index 0 ns (filter test cookies)) (sym numbers) (listed-left rows.index test 0 rows.numbers.items cookies c.requires.listed));
-      below = subst (λ ns. All (λ n. n < rows.next) ns) (sym numbers) (All-numbers_left (λ n. n < rows.next) test rows.numbers.items cookies c.requires.below);
-    }
+returns-clause-cookies c =
+    swept-all (keeps c.args.sweep.now) c.args.self.now.slots.items c.loop-place.self.slots.items c.loop-place.place (omega arith) c.loop-place.invariant.swept
