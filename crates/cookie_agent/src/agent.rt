@@ -1,9 +1,9 @@
 //! A user agent (RFC 6265bis, Storage Model, Retrieval Algorithm).
-ghost use Rattle.std.specs.Prelude.{◌≡◌, ◌&&◌, not, [], filter, IfOk, OnOk, OnErr, Ok, map};
+ghost use Rattle.std.specs.Prelude.{◌≡◌, not, [], filter, IfOk, OnOk, OnErr, Ok, map};
 ghost use Rattle.std.specs.List.{list_any};
 ghost use Rattle.cookie_browser.specs.ReceivedCode.{received_view};
 ghost use Rattle.cookie_browser.specs.RefusedCode.{kept_view, request_view};
-ghost use Rattle.cookie_browser.specs.Storage.{is_overlaid, lasting, lasts, overlays, verdict_on};
+ghost use Rattle.cookie_browser.specs.Storage.{lasting, overlays, verdict_on};
 ghost use Rattle.cookie_agent.specs.HostJars.{AreOwnOriginals, AreOwnSet, IsLastOwn};
 ghost use Rattle.cookie_agent.specs.Hosts.{AreOnlyOwn};
 ghost use Rattle.cookie_agent.specs.Limits.{IsWithin, trimmed};
@@ -104,7 +104,7 @@ impl<'r> Agent<'r> {
             .to_ascii_lowercase(self.store.alloc())?;
         let request = site.request();
         let new = KeptCookie::of(self.suffixes, &request, received, domain.as_slice());
-        let overlays = overlays(self.store.cookies(), &request, &new, now);
+        let overlays = overlays(&self.store, &request, &new, now)?;
         if let Some(refusal) = refused_with(
             self.suffixes,
             &request,
@@ -258,27 +258,17 @@ impl<'r> Agent<'r> {
 }
 
 // Whether the new cookie would overlay one that isn't expired.
-#[tactic(auto, using(crate::proofs::RefusalLemmas::any_lasting))]
 fn overlays(
-    cookies: Cookies<'_>,
+    store: &Store,
     request: &BrowserRequest<'_>,
     new: &KeptCookie<'_>,
     now: DateTime,
-) -> bool
-    ensures { result
-        ≡ overlays (request_view request.now) (lasting now cookies.entry) (kept_view new.now) }
+) -> Result<bool, AllocError>
+    ensures { IfOk result (λ found. found
+        ≡ overlays (request_view request.now) (lasting now store.now) (kept_view new.now)) }
 {
-    !new.is_secure_only && !request.is_secure && any_overlaid(cookies, request, new, now)
-}
-
-fn any_overlaid(
-    mut cookies: Cookies<'_>,
-    request: &BrowserRequest<'_>,
-    new: &KeptCookie<'_>,
-    now: DateTime,
-) -> bool
-    ensures { result ≡ list_any (λ old. lasts old.expiry now
-        && is_overlaid (request_view request.now) (kept_view new.now) old) cookies.entry }
-{
-    cookies.any(|old| old.as_kept().is_overlaid_by(new, request) && old.lasts(now))
+    if new.is_secure_only || request.is_secure {
+        return Ok(false);
+    }
+    store.overlays(request, new, now)
 }

@@ -1,7 +1,7 @@
 //! The numbers of stored cookies by their domains.
-ghost use Rattle.std.specs.Prelude.{◌≡◌, ℕ, List, true, false, Contains, is_some, reverse, IfOk, OnOk};
+ghost use Rattle.std.specs.Prelude.{◌≡◌, ◌++◌, ℕ, List, [], ◌∷◌, true, false, Contains, is_some, reverse, IfOk, OnOk};
 ghost use Rattle.cookie_browser.specs.Request.{is_in_domain};
-ghost use Rattle.cookie_agent.specs.IndexCode.{IsNumberAt, Lists, numbers_at};
+ghost use Rattle.cookie_agent.specs.IndexCode.{IsNumberAt, Lists, is_around, numbers_at};
 ghost use Rattle.cookie_agent.specs.RowsCode.{slot_at};
 
 use crate::bytes::copied;
@@ -81,6 +81,36 @@ impl DomainIndex {
         }
         Ok(found)
     }
+
+    // The numbers of the domain and of those below it.
+    pub(crate) fn below(&self, alloc: Global, domain: &[u8]) -> Result<Vec<usize>, AllocError>
+        ensures { IfOk result (λ found. (other : List ℕ) (n : ℕ)
+            → is_in_domain other false domain.now ≡ true → Lists self.now other n
+            → Contains found.items n) }
+    {
+        let key = reversed(alloc, domain)?;
+        let mut found = Vec::new(alloc);
+        found.extend_from_slice(self.at(&key))?;
+
+        // The keys of the domains below it begin with its own and a dot.
+        let start = followed(alloc, &key, b'.')?;
+        let end = followed(alloc, &key, b'.' + 1)?;
+        for (_, numbers) in self.numbers.range(&start..&end) {
+            found.extend_from_slice(numbers)?;
+        }
+        Ok(found)
+    }
+
+    // The numbers of the domain, of those above it and of those below it.
+    pub(crate) fn around(&self, alloc: Global, domain: &[u8]) -> Result<Vec<usize>, AllocError>
+        ensures { IfOk result (λ found. (other : List ℕ) (n : ℕ)
+            → is_around domain.now other ≡ true → Lists self.now other n
+            → Contains found.items n) }
+    {
+        let mut found = self.above(alloc, domain)?;
+        found.extend_from_slice(&self.below(alloc, domain)?)?;
+        Ok(found)
+    }
 }
 
 // The bytes in the reverse order.
@@ -89,5 +119,14 @@ pub(crate) fn reversed(alloc: Global, text: &[u8]) -> Result<Vec<u8>, AllocError
 {
     let mut made = copied(alloc, text)?;
     made.reverse();
+    Ok(made)
+}
+
+// The bytes, and this one after them.
+fn followed(alloc: Global, text: &[u8], byte: u8) -> Result<Vec<u8>, AllocError>
+    ensures { IfOk result (λ made. made.items ≡ text.now ++ byte ∷ []) }
+{
+    let mut made = copied(alloc, text)?;
+    made.push(byte)?;
     Ok(made)
 }

@@ -16,6 +16,7 @@ mod key;
 mod limits;
 mod nanos;
 mod obstacle;
+mod overlaid;
 mod ranked;
 mod rows;
 mod saved;

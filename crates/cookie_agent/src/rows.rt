@@ -3,6 +3,7 @@ ghost use Rattle.std.specs.Prelude.{◌≡◌, ◌&&◌, ◌++◌, ℕ, ℤ, tru
 ghost use Rattle.jiff.specs.Types.{DateTime};
 ghost use Rattle.cookie_browser.specs.RefusedCode.{kept_view};
 ghost use Rattle.cookie_browser.specs.Storage.{is_same_cookie, is_sent, kept_with, lasting};
+ghost use Rattle.cookie_agent.specs.IndexCode.{is_around};
 ghost use Rattle.cookie_agent.specs.LimitsCode.{Ascends, IsInOrder, picked};
 ghost use Rattle.cookie_agent.specs.RowsCode.{AreListed, AreRows, has, held, keeps, slot_at};
 ghost use Rattle.cookie_agent.specs.Sent.{accessed};
@@ -277,6 +278,20 @@ impl Rows {
         places.sort_unstable();
         places.dedup();
         Ok(places)
+    }
+
+    // The slots of the cookies of a domain and of the domains above and below it, and others.
+    pub(crate) fn places_around(
+        &self,
+        alloc: Global,
+        domain: &[u8],
+    ) -> Result<Vec<usize>, AllocError>
+        requires { AreRows self.now }
+        ensures { IfOk result (λ places. (place : ℕ)
+            → has (λ c. is_around domain.now c.domain) (slot_at self.now.slots.items place) ≡ true
+            → Contains places.items place) }
+    {
+        self.index.around(alloc, domain)
     }
 
     // Sets the last access of each cookie that is sent. These are in some of the slots.

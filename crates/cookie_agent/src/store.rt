@@ -1,7 +1,8 @@
 //! A store of cookies (RFC 6265bis, Storage Model).
 ghost use Rattle.std.specs.Prelude.{◌≡◌, ◌≤ℤ◌, ◌++◌, not, true, false, [], All, filter, length, map, option_copied, slice_get, IfOk, OnOk, OnErr};
 ghost use Rattle.std.specs.List.{list_any};
-ghost use Rattle.cookie_browser.specs.Storage.{kept_with, lasting};
+ghost use Rattle.cookie_browser.specs.RefusedCode.{kept_view, request_view};
+ghost use Rattle.cookie_browser.specs.Storage.{is_overlaid, kept_with, lasting};
 ghost use Rattle.cookie_agent.specs.Limits.{IsWithin, trimmed};
 ghost use Rattle.cookie_agent.specs.Sent.{IsOrderedHeader, accessed};
 ghost use Rattle.cookie_agent.specs.Sites.{TrimsApart};
@@ -14,13 +15,14 @@ use crate::header::header_of;
 use crate::in_turn::stored_in_turn;
 use crate::limits::Limits;
 use crate::nanos::nanos_of;
+use crate::overlaid::any_overlaid;
 use crate::rows::Rows;
 use crate::scope::Scope;
 use crate::site::Site;
 use crate::stored::StoredCookie;
 use crate::sweep::Sweep;
 use crate::trim::places_within;
-use cookie_browser::Suffixes;
+use cookie_browser::{BrowserRequest, KeptCookie, Suffixes};
 use jiff::civil::DateTime;
 use std::alloc::{AllocError, Global};
 use std::marker::Model;
@@ -218,6 +220,20 @@ impl Store {
         self.rows.put(self.alloc, cookie, now)?;
         self.fresh_until = drop_expired(&mut self.rows, fresh_until, now);
         Ok(())
+    }
+
+    // Whether the new cookie would overlay one that isn't expired, if it comes over an insecure connection.
+    pub(crate) fn overlays(
+        &self,
+        request: &BrowserRequest<'_>,
+        new: &KeptCookie<'_>,
+        now: DateTime,
+    ) -> Result<bool, AllocError>
+        ensures { IfOk result (λ found. found ≡ list_any
+            (is_overlaid (request_view request.now) (kept_view new.now)) (lasting now self.now)) }
+    {
+        let places = self.rows.places_around(self.alloc, new.domain)?;
+        Ok(any_overlaid(&self.rows.slots, &places, request, new, now))
     }
 
     // The header of the cookies that are sent.
