@@ -3,7 +3,7 @@ pub mod BeyondLemmas
 pub mod CookiesTxtLemmas
 pub mod CutOutLemmas
 pub mod DomainIndexLemmas
-pub mod FreshLemmas
+pub mod ExpiriesLemmas
 pub mod GroupLemmas
 pub mod HistoryLemmas
 pub mod HostJarLemmas
@@ -37,5 +37,6 @@ pub mod SlotLemmas
 pub mod StorableLemmas
 pub mod StoreLemmas
 pub mod StoringLemmas
+pub mod TimedLemmas
 pub mod TrimLemmas
 pub mod VerdictLemmas

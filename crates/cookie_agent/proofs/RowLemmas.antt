@@ -1,10 +1,9 @@
 -- Stored cookies and their numbers: what each change leaves.
-use Rattle.std.proofs.Common.{◌≡◌, ℕ, zero, suc, pos, ◌<◌, ◌&&◌, ◌||◌, not, take, drop, bytes_eq, Option, None, Some, Result, Ok, Err, Bool, true, false, cond, List, [], ◌∷◌, length, get_or, map, refl, sym, ap, ◌∙◌, All, ⊎_elim, arith}
+use Rattle.std.proofs.Common.{◌≡◌, ℕ, zero, suc, pos, ◌<◌, ◌&&◌, ◌||◌, not, take, drop, bytes_eq, Option, None, Some, Bool, true, false, cond, List, [], ◌∷◌, length, get_or, refl, sym, ap, ◌∙◌, All, ⊎_elim, arith}
 use Rattle.std.proofs.lemmas.Bool.{and_parts, cases_order, false≢true, or_cases}
-use Rattle.std.proofs.lemmas.List.Elements.{All-append, All-drop, All-get_or, All-head, All-map, All-tail, All-take, All-weaker}
+use Rattle.std.proofs.lemmas.List.Elements.{All-append, All-drop, All-get_or, All-head, All-tail, All-take}
 use Rattle.std.specs.List.{filter, remove}
 use Rattle.std.specs.Option.{MatchOption}
-use Rattle.std.specs.Result.{OnErr, OnOk}
 use Rattle.jiff.specs.Types.{DateTime}
 use Rattle.cookie_browser.specs.Request.{RequestView, is_in_domain, is_under_path}
 use Rattle.cookie_browser.specs.Storage.{KeptView, CookieStore, allows, is_meant_for, is_same_cookie, is_sent, lasts}
@@ -21,11 +20,6 @@ use Rattle.cookie_agent.proofs.PutLemmas.{kept_all}
 pub MatchOption-weaker : {X : Type 0} (o : Option X) (P R : Type 0) (Q S : X → Type 0) → (P → R) → ((x : X) → Q x → S x) → MatchOption o P Q → MatchOption o R S
 MatchOption-weaker None P R Q S none some h = none h
 MatchOption-weaker (Some x) P R Q S none some h = some x h
-
--- what both a value and an error tell
-pub from_either : {T E A B P : Type 0} (r : Result T E) → (A → P) → (B → P) → OnOk r A → OnErr r B → P
-from_either (Ok x) value error a b = value a
-from_either (Err e) value error a b = error b
 
 -- ---- the only one of its key
 
@@ -107,10 +101,6 @@ apart-remove [] zero apart = tt
 apart-remove [] (suc i) apart = tt
 apart-remove (c ∷ xs) zero apart = apart.1
 apart-remove (c ∷ xs) (suc i) apart = (All-remove (λ d. is_same_cookie d c ≡ false) xs i apart.0, apart-remove xs i apart.1)
-
--- what is told of each is told of those at places
-pub All-picked : {X : Type 0} (P : X → Type 0) (xs : List X) (b : X) (ps : List ℕ) → All P xs → All (λ p. p < length xs) ps → All P (map (λ p. get_or xs p b) ps)
-All-picked P xs b ps all inside = All-map P (λ p. get_or xs p b) ps (All-weaker (λ p. p < length xs) (λ p. P (get_or xs p b)) (λ p lt. All-get_or P xs p b lt all) ps inside)
 
 -- ---- a cookie that is sent is of the host's domain, or of one above it
 

@@ -1,5 +1,5 @@
 -- Slots and the cookies in them: what each change leaves.
-use Rattle.std.proofs.Common.{◌≡◌, ℕ, zero, suc, ◌+◌, ◌<◌, ◌≤◌, ◌&&◌, reverse, take, drop, Option, None, Some, option_map, is_some, Bool, true, false, cond, List, [], ◌∷◌, ◌++◌, length, get_or, map, nat_eq, nat_lt, refl, sym, ap, subst, ◌∙◌, All, ◌⊎◌, ⊎_elim, arith}
+use Rattle.std.proofs.Common.{◌≡◌, ◌≢◌, ℕ, zero, suc, ◌+◌, ◌<◌, ◌≤◌, ◌&&◌, reverse, take, drop, Option, None, Some, option_map, is_some, Bool, true, false, cond, List, [], ◌∷◌, ◌++◌, length, get_or, map, nat_eq, nat_lt, refl, sym, ap, subst, ◌∙◌, All, ◌⊎◌, ⊎_elim, arith}
 use denote.Ref.{Bor}
 use Rattle.std.proofs.Math.ListN.{set}
 use Rattle.std.proofs.lemmas.Bool.{and_parts, cases_eq, cases_lt, cases_order, false≢true}
@@ -165,12 +165,17 @@ at-place (Some d ∷ slots) (suc p) c e =
 abbrev pub EachSlot : (ℕ → KeptView → Type 0) → Slots → Type 0
 EachSlot P slots = (place : ℕ) (c : KeptView) → slot_at slots place ≡ Some c → P place c
 
+-- after a write to a slot
+pub each-but : (P : ℕ → KeptView → Type 0) (slots : Slots) (p : ℕ) (slot : Option KeptView) → ((k : ℕ) (c : KeptView) → k ≢ p → slot_at slots k ≡ Some c → P k c)
+    → ((c : KeptView) → slot ≡ Some c → P p c) → EachSlot P (set slots p slot)
+each-but P [] p slot others here k c e = none_some c e
+each-but P (s ∷ slots) zero slot others here zero c e = here c e
+each-but P (s ∷ slots) zero slot others here (suc k) c e = others (suc k) c (λ z. omega (arith, z)) e
+each-but P (s ∷ slots) (suc p) slot others here zero c e = others 0 c (λ z. omega (arith, z)) e
+each-but P (s ∷ slots) (suc p) slot others here (suc k) c e = each-but (λ j d. P (suc j) d) slots p slot (λ j d other f. others (suc j) d (λ same. other (omega (arith, same))) f) here k c e
+
 pub each-set : (P : ℕ → KeptView → Type 0) (slots : Slots) (p : ℕ) (slot : Option KeptView) → EachSlot P slots → ((c : KeptView) → slot ≡ Some c → P p c) → EachSlot P (set slots p slot)
-each-set P [] p slot each here k c e = each k c e
-each-set P (s ∷ slots) zero slot each here zero c e = here c e
-each-set P (s ∷ slots) zero slot each here (suc k) c e = each (suc k) c e
-each-set P (s ∷ slots) (suc p) slot each here zero c e = each 0 c e
-each-set P (s ∷ slots) (suc p) slot each here (suc k) c e = each-set (λ j d. P (suc j) d) slots p slot (λ j d f. each (suc j) d f) here k c e
+each-set P slots p slot each here = each-but P slots p slot (λ k c other e. each k c e) here
 
 pub each-push : (P : ℕ → KeptView → Type 0) (slots : Slots) (x : KeptView) → EachSlot P slots → P (length slots) x → EachSlot P (slots ++ Some x ∷ [])
 each-push P [] x each here zero c e = subst (P 0) (some_is x c e) here
@@ -350,38 +355,38 @@ pub held-more : (slots : Slots) (i : ℕ) → i < length slots → held (take (i
 held-more slots i lt = ap held (take_more slots i None lt) ∙ filter_map-append (λ s. s) (take i slots) (slot_at slots i ∷ [])
 
 module _ (slots : Slots) where
-  pub record IsPacked (index : DomainIndex) (i n : ℕ) : Type 0 where
+  -- the first i slots have n cookies, and of each of them with its number this is told
+  pub record IsPacked (P : ℕ → KeptView → Type 0) (i n : ℕ) : Type 0 where
     pub few : n ≤ i
     pub number : n ≡ length (filter is_some (take i slots))
-    pub listed : AreListed index (filter is_some (take i slots))
+    pub each : EachSlot P (filter is_some (take i slots))
 
   packed_more : (i : ℕ) (s : Option KeptView) → i < length slots → slot_at slots i ≡ s → filter is_some (take (i + 1) slots) ≡ filter is_some (take i slots) ++ filter is_some (s ∷ [])
   packed_more i s lt is =
       ap (filter is_some) (take_more slots i None lt ∙ ap (λ t. take i slots ++ t ∷ []) is) ∙ filter-append is_some (take i slots) (s ∷ [])
 
-  pub packed-none : (index : DomainIndex) → IsPacked index 0 0
-  packed-none index = record { few = omega arith; number = refl; listed = λ k c e. none_some c e }
+  pub packed-none : (P : ℕ → KeptView → Type 0) → IsPacked P 0 0
+  packed-none P = record { few = omega arith; number = refl; each = λ k c e. none_some c e }
 
-  pub packed-same : (index : DomainIndex) (i n : ℕ) → IsPacked index i n → i < length slots → slot_at slots i ≡ None → IsPacked index (i + 1) n
-  packed-same index i n so lt is =
+  pub packed-same : (P : ℕ → KeptView → Type 0) (i n : ℕ) → IsPacked P i n → i < length slots → slot_at slots i ≡ None → IsPacked P (i + 1) n
+  packed-same P i n so lt is =
       let few = so.few in
       let same : filter is_some (take (i + 1) slots) ≡ filter is_some (take i slots) = packed_more i None lt is ∙ append-nil (filter is_some (take i slots)) in
       record {
         few = omega (arith, few);
         number = so.number ∙ sym (ap (λ l. length l) same);
-        listed = subst (AreListed index) (sym same) so.listed;
+        each = subst (EachSlot P) (sym same) so.each;
       }
 
-  pub packed-more : (index new : DomainIndex) (i n : ℕ) (x : KeptView) → IsPacked index i n → i < length slots → slot_at slots i ≡ Some x
-      → ((d : List ℕ) (k : ℕ) → Lists index d k → Lists new d k) → Lists new x.domain n → IsPacked new (i + 1) (n + 1)
-  packed-more index new i n x so lt is stay added =
+  pub packed-more : (P Q : ℕ → KeptView → Type 0) (i n : ℕ) (x : KeptView) → IsPacked P i n → i < length slots → slot_at slots i ≡ Some x
+      → ((k : ℕ) (c : KeptView) → P k c → Q k c) → Q n x → IsPacked Q (i + 1) (n + 1)
+  packed-more P Q i n x so lt is stay added =
       let few = so.few in
       let more : filter is_some (take (i + 1) slots) ≡ filter is_some (take i slots) ++ Some x ∷ [] = packed_more i (Some x) lt is in
       record {
         few = omega (arith, few);
         number = ap (λ m. m + 1) so.number ∙ sym (ap (λ l. length l) more ∙ length-append (filter is_some (take i slots)) (Some x ∷ []));
-        listed = subst (AreListed new) (sym more) (listed-push new (filter is_some (take i slots)) x
-            (λ k c e. stay c.domain k (so.listed k c e)) (subst (Lists new x.domain) so.number added));
+        each = subst (EachSlot Q) (sym more) (each-push Q (filter is_some (take i slots)) x (λ k c e. stay k c (so.each k c e)) (subst (λ m. Q m x) so.number added));
       }
 
 -- ---- a walk that keeps the cookies at places of the list

@@ -9,6 +9,7 @@ mod bytes;
 mod context;
 mod cookies;
 mod domain_index;
+mod expiries;
 mod group;
 mod header;
 mod in_turn;
@@ -25,7 +26,6 @@ mod site;
 mod slots;
 mod store;
 mod stored;
-mod sweep;
 mod trim;
 mod verdict;
 

@@ -1,22 +1,23 @@
 //! Stored cookies, which are found by their domain.
-ghost use Rattle.std.specs.Prelude.{◌≡◌, ◌&&◌, ◌++◌, ℕ, ℤ, true, false, [], ◌∷◌, None, All, Contains, filter, is_some, length, map, nat_eq, nat_lt, option_copied, option_map, reverse, slice_get, slice_index, slice_set, IfOk, OnOk, OnErr, MatchOption};
+ghost use Rattle.std.specs.Prelude.{◌≡◌, ◌&&◌, ◌++◌, ℕ, not, true, false, [], ◌∷◌, None, All, Contains, filter, is_some, length, map, nat_eq, nat_lt, option_copied, option_map, reverse, slice_get, slice_index, slice_set, IfOk, OnOk, OnErr, MatchOption};
 ghost use Rattle.jiff.specs.Types.{DateTime};
 ghost use Rattle.cookie_browser.specs.RefusedCode.{kept_view};
 ghost use Rattle.cookie_browser.specs.Storage.{is_same_cookie, is_sent, kept_with, lasting};
 ghost use Rattle.cookie_agent.specs.IndexCode.{is_around};
 ghost use Rattle.cookie_agent.specs.LimitsCode.{Ascends, IsInOrder, picked};
-ghost use Rattle.cookie_agent.specs.RowsCode.{AreListed, AreRows, has, held, keeps, slot_at};
+ghost use Rattle.cookie_agent.specs.RowsCode.{AreListed, AreRows, AreTimed, has, held, slot_at};
 ghost use Rattle.cookie_agent.specs.Sent.{accessed};
-ghost use Rattle.cookie_agent.specs.Stored.{IsApart, is_named_in};
-ghost use Rattle.cookie_agent.specs.StoredCode.{IsFreshUntil, gives_place};
+ghost use Rattle.cookie_agent.specs.Stored.{IsApart, is_named_in, is_of_domain};
+ghost use Rattle.cookie_agent.specs.StoredCode.{gives_place};
 
 use crate::cookies::Cookies;
 use crate::domain_index::{DomainIndex, reversed};
+use crate::expiries::Expiries;
+use crate::nanos::nanos_of;
 use crate::scope::Scope;
 use crate::site::Site;
-use crate::slots::{cookie_in, is_full, lasts_in};
+use crate::slots::{cookie_in, expiry_in, is_expired_in, is_full, lasts_in};
 use crate::stored::StoredCookie;
-use crate::sweep::Sweep;
 use cookie_browser::{Enforcement, KeptCookie};
 use jiff::civil::DateTime;
 use std::alloc::{AllocError, Global};
@@ -30,6 +31,8 @@ pub(crate) struct Rows {
     pub(crate) slots: Vec<Option<StoredCookie>>,
     // The slots of the cookies by domain, and others.
     index: DomainIndex,
+    // The slots of the cookies by expiry, and others.
+    expiries: Expiries,
     // How many slots are empty.
     empty: usize,
 }
@@ -42,6 +45,7 @@ impl Rows {
         Rows {
             slots: Vec::new(alloc),
             index: DomainIndex::new(alloc),
+            expiries: Expiries::new(alloc),
             empty: 0,
         }
     }
@@ -137,12 +141,12 @@ impl Rows {
             ≡ lasting now (kept_with cookie (lasting now (held self.old.slots.items)))) }
         ensures err { OnErr result (held self.new.slots.items ≡ held self.old.slots.items) }
         ensures rows { AreRows self.new }
-        ensures fresh { (end : ℤ) → All (IsFreshUntil end) (held self.old.slots.items)
-            → IsFreshUntil end cookie → All (IsFreshUntil end) (held self.new.slots.items) }
     {
         let key = reversed(alloc, cookie.domain())?;
         match self.find_lasting(&key, &cookie.as_kept(), now) {
             Some(place) => {
+                let old = expiry_in(&self.slots, place);
+                self.expiries.replace(place, old, cookie.expiry_nanos())?;
                 self.slots[place] = Some(cookie);
                 Ok(())
             }
@@ -198,7 +202,9 @@ impl Rows {
         ensures err { OnErr result (held self.new.slots.items ≡ held self.old.slots.items) }
         ensures rows { AreRows self.new }
     {
-        self.index.add(alloc, key, self.slots.len())?;
+        let number = self.slots.len();
+        self.index.add(alloc, key, number)?;
+        self.expiries.add(number, cookie.expiry_nanos())?;
         self.slots.push(Some(cookie))?;
         Ok(())
     }
@@ -210,7 +216,9 @@ impl Rows {
         ensures rows { AreRows self.new }
     {
         if self.empty > 0 {
-            self.index = packed_index(alloc, &self.slots)?;
+            let (index, expiries) = packed(alloc, &self.slots)?;
+            self.index = index;
+            self.expiries = expiries;
             self.slots.retain(|slot| slot.is_some());
             self.empty = 0;
         }
@@ -224,20 +232,36 @@ impl Rows {
         ensures slots { self.new.slots.items ≡ slice_set self.old.slots.items place None }
         ensures rows { AreRows self.new }
     {
+        self.expiries.remove(place, expiry_in(&self.slots, place));
         self.slots[place] = None;
         self.empty += 1;
     }
 
-    // Removes the cookies that go.
-    pub(crate) fn sweep(&mut self, sweep: &Sweep<'_>)
+    // Removes the cookies that are expired.
+    pub(crate) fn evict(&mut self, now: DateTime)
+        requires { AreRows self.old }
+        ensures cookies { held self.new.slots.items ≡ lasting now (held self.old.slots.items) }
+        ensures rows { AreRows self.new }
+    {
+        let time = nanos_of(now);
+        while let Some(place) = self.expiries.pop_due(time) {
+            if is_expired_in(&self.slots, place, now) {
+                self.slots[place] = None;
+                self.empty += 1;
+            }
+        }
+    }
+
+    // Removes the cookies of this domain and of the domains below it.
+    pub(crate) fn clear_domain(&mut self, domain: &[u8])
         requires { AreRows self.old }
         ensures cookies { held self.new.slots.items
-            ≡ filter (keeps sweep.now) (held self.old.slots.items) }
+            ≡ filter (λ c. not (is_of_domain domain.now c)) (held self.old.slots.items) }
         ensures rows { AreRows self.new }
     {
         for place in 0..self.slots.len() {
             if let Some(cookie) = cookie_in(&self.slots, place) {
-                if !sweep.keeps(cookie) {
+                if cookie.is_of_domain(domain) {
                     self.remove(place);
                 }
             }
@@ -356,20 +380,26 @@ fn named_among(slots: &[Option<StoredCookie>], name: &[u8], scope: &Scope) -> Op
     None
 }
 
-// The index of the slots without those that are empty.
-fn packed_index(alloc: Global, slots: &[Option<StoredCookie>]) -> Result<DomainIndex, AllocError>
-    ensures { IfOk result (λ index. AreListed index (filter is_some slots.now)) }
+// What finds the cookies in the slots without those that are empty.
+fn packed(
+    alloc: Global,
+    slots: &[Option<StoredCookie>],
+) -> Result<(DomainIndex, Expiries), AllocError>
+    ensures listed { IfOk result (λ made. AreListed made.0 (filter is_some slots.now)) }
+    ensures timed { IfOk result (λ made. AreTimed made.1 (filter is_some slots.now)) }
 {
     let mut index = DomainIndex::new(alloc);
+    let mut expiries = Expiries::new(alloc);
     let mut number = 0;
     for slot in slots {
         if let Some(cookie) = slot {
             let key = reversed(alloc, cookie.domain())?;
             index.add(alloc, key, number)?;
+            expiries.add(number, cookie.expiry_nanos())?;
             number += 1;
         }
     }
-    Ok(index)
+    Ok((index, expiries))
 }
 
 // Sets the last access of the cookie in this slot, if there is one that is sent.

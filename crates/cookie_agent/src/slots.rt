@@ -1,7 +1,7 @@
 //! Slots of stored cookies.
-ghost use Rattle.std.specs.Prelude.{◌≡◌, None, Some, count_by, is_some, MatchOption};
+ghost use Rattle.std.specs.Prelude.{◌≡◌, not, None, Some, count_by, is_some, MatchOption};
 ghost use Rattle.cookie_browser.specs.Storage.{lasts};
-ghost use Rattle.cookie_agent.specs.RowsCode.{has, slot_at};
+ghost use Rattle.cookie_agent.specs.RowsCode.{expiry_at, has, slot_at};
 
 use crate::stored::StoredCookie;
 use jiff::civil::DateTime;
@@ -37,4 +37,24 @@ pub(crate) fn count_full(slots: &[Option<StoredCookie>]) -> usize
     ensures { result ≡ count_by is_some slots.now }
 {
     slots.iter().filter(|slot| slot.is_some()).count()
+}
+
+// Whether the slot has a cookie that is expired.
+pub(crate) fn is_expired_in(slots: &[Option<StoredCookie>], place: usize, now: DateTime) -> bool
+    ensures { result ≡ has (λ c. not (lasts c.expiry now)) (slot_at slots.now place) }
+{
+    match cookie_in(slots, place) {
+        Some(cookie) => !cookie.lasts(now),
+        None => false,
+    }
+}
+
+// The expiry of the slot's cookie, in nanoseconds since 1970, if it has one.
+pub(crate) fn expiry_in(slots: &[Option<StoredCookie>], place: usize) -> Option<i128>
+    ensures { result ≡ expiry_at (slot_at slots.now place) }
+{
+    match cookie_in(slots, place) {
+        Some(cookie) => cookie.expiry_nanos(),
+        None => None,
+    }
 }

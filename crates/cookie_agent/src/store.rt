@@ -1,5 +1,5 @@
 //! A store of cookies (RFC 6265bis, Storage Model).
-ghost use Rattle.std.specs.Prelude.{◌≡◌, ◌≤ℤ◌, ◌++◌, not, true, false, [], All, filter, length, map, option_copied, slice_get, IfOk, OnOk, OnErr};
+ghost use Rattle.std.specs.Prelude.{◌≡◌, ◌++◌, not, true, false, [], filter, length, map, option_copied, slice_get, IfOk, OnOk, OnErr};
 ghost use Rattle.std.specs.List.{list_any};
 ghost use Rattle.cookie_browser.specs.RefusedCode.{kept_view, request_view};
 ghost use Rattle.cookie_browser.specs.Storage.{is_overlaid, kept_with, lasting};
@@ -7,20 +7,18 @@ ghost use Rattle.cookie_agent.specs.Limits.{IsWithin, trimmed};
 ghost use Rattle.cookie_agent.specs.Sent.{IsOrderedHeader, accessed};
 ghost use Rattle.cookie_agent.specs.Sites.{TrimsApart};
 ghost use Rattle.cookie_agent.specs.Stored.{IsApart, is_named_in, is_of_domain, kept_with_each};
-ghost use Rattle.cookie_agent.specs.RowsCode.{AreRows, held};
-ghost use Rattle.cookie_agent.specs.StoredCode.{AreStored, IsFreshUntil};
+ghost use Rattle.cookie_agent.specs.RowsCode.{held};
+ghost use Rattle.cookie_agent.specs.StoredCode.{AreStored};
 
 use crate::cookies::Cookies;
 use crate::header::header_of;
 use crate::in_turn::stored_in_turn;
 use crate::limits::Limits;
-use crate::nanos::nanos_of;
 use crate::overlaid::any_overlaid;
 use crate::rows::Rows;
 use crate::scope::Scope;
 use crate::site::Site;
 use crate::stored::StoredCookie;
-use crate::sweep::Sweep;
 use crate::trim::places_within;
 use cookie_browser::{BrowserRequest, KeptCookie, Suffixes};
 use jiff::civil::DateTime;
@@ -33,8 +31,6 @@ use std::marker::Model;
 pub struct Store {
     alloc: Global,
     rows: Rows,
-    // Nanoseconds since 1970 before which no cookie is expired.
-    fresh_until: i128,
 }
 
 impl Model for Store {
@@ -46,7 +42,7 @@ impl Model for Store {
 
     ghost view = { λ s. held s.rows.slots.items };
 
-    ghost invariant = { λ s. AreStored s.rows s.fresh_until };
+    ghost invariant = { λ s. AreStored s.rows };
 }
 
 impl Store {
@@ -57,7 +53,6 @@ impl Store {
         Store {
             alloc,
             rows: Rows::new(alloc),
-            fresh_until: i128::MAX,
         }
     }
 
@@ -77,12 +72,7 @@ impl Store {
         ensures { IfOk result (λ store. store ≡ cookies.items) }
     {
         let rows = Rows::of(alloc, cookies)?;
-        let fresh_until = fresh_until(rows.cookies());
-        Ok(Store {
-            alloc,
-            rows,
-            fresh_until,
-        })
+        Ok(Store { alloc, rows })
     }
 
     /// Stores each of these cookies in turn, but for those that are expired at the time `now` in UTC: it takes the place
@@ -151,7 +141,7 @@ impl Store {
     pub fn clear_domain(&mut self, domain: &[u8])
         ensures { self.new ≡ filter (λ cookie. not (is_of_domain domain.now cookie)) self.old }
     {
-        self.rows.sweep(&Sweep::Domain(domain));
+        self.rows.clear_domain(domain);
     }
 
     /// Removes all cookies.
@@ -165,7 +155,7 @@ impl Store {
     pub fn evict(&mut self, now: DateTime)
         ensures { self.new ≡ lasting now self.old }
     {
-        self.fresh_until = drop_expired(&mut self.rows, self.fresh_until, now);
+        self.rows.evict(now);
     }
 
     /// Drops what is expired at the time `now` in UTC, and then the cookies above the limits, as RFC 6265bis orders
@@ -216,9 +206,8 @@ impl Store {
             ≡ lasting now (kept_with cookie (lasting now self.old))) }
         ensures err { OnErr result (self.new ≡ self.old) }
     {
-        let fresh_until = sooner(self.fresh_until, cookie.fresh_until());
         self.rows.put(self.alloc, cookie, now)?;
-        self.fresh_until = drop_expired(&mut self.rows, fresh_until, now);
+        self.rows.evict(now);
         Ok(())
     }
 
@@ -256,40 +245,6 @@ impl Store {
         self.rows.access(&places, site, now);
         Ok(header)
     }
-}
-
-// The lesser of two times.
-fn sooner(time: i128, other: i128) -> i128
-    ensures first { result ≤ℤ time }
-    ensures second { result ≤ℤ other }
-{
-    if time < other { time } else { other }
-}
-
-// Nanoseconds since 1970 before which none of the cookies is expired.
-fn fresh_until(cookies: Cookies<'_>) -> i128
-    ensures { All (IsFreshUntil result) cookies.entry }
-{
-    let mut end = i128::MAX;
-    for cookie in cookies {
-        end = sooner(end, cookie.fresh_until());
-    }
-    end
-}
-
-// Drops the cookies that are expired. None is before the time `fresh_until`, nor are the others before the result.
-fn drop_expired(rows: &mut Rows, fresh_until: i128, now: DateTime) -> i128
-    requires rows { AreRows rows.old }
-    requires fresh { All (IsFreshUntil fresh_until) (held rows.old.slots.items) }
-    ensures cookies { held rows.new.slots.items ≡ lasting now (held rows.old.slots.items) }
-    ensures rows { AreRows rows.new }
-    ensures fresh { All (IsFreshUntil result) (held rows.new.slots.items) }
-{
-    if nanos_of(now) < fresh_until {
-        return fresh_until;
-    }
-    rows.sweep(&Sweep::Expired(now));
-    self::fresh_until(rows.cookies())
 }
 
 // Copies of the cookies.

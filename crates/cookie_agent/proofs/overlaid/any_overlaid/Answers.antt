@@ -1,5 +1,5 @@
 -- What would be overlaid is in one of the slots.
-use Rattle.std.proofs.Common.{◌≡◌, ◌&&◌, ℕ, ◌<◌, Bool, true, false, get_or, sym, subst, ◌∙◌, ⊎_elim, arith}
+use Rattle.std.proofs.Common.{◌≡◌, ◌&&◌, Bool, false, get_or, sym, subst, ◌∙◌, ⊎_elim, arith}
 use Rattle.std.proofs.lemmas.Bool.{and_parts, cases_lt}
 use Rattle.cookie_browser.specs.RefusedCode.{kept_view, request_view}
 use Rattle.cookie_browser.specs.Storage.{KeptView, is_overlaid, lasts}

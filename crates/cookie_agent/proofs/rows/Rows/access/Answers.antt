@@ -4,9 +4,10 @@ use Rattle.std.proofs.lemmas.Bool.{cases_eq}
 use Rattle.std.proofs.lemmas.List.{length-map, length-set, take_all, take_more}
 use Rattle.std.proofs.lemmas.List.Elements.{Contains-push_cases}
 use Rattle.std.specs.List.{Contains}
-use Rattle.cookie_agent.specs.RowsCode.{AreListed, Slots, held, slot_at}
+use Rattle.cookie_agent.specs.RowsCode.{AreListed, AreTimed, Slots, held, slot_at}
 use Rattle.cookie_agent.specs.Sent.{accessed}
 use Rattle.cookie_agent.proofs.SlotLemmas.{all-accessed, each-accessed, held-mapped, listed-accessed}
+use Rattle.cookie_agent.proofs.TimedLemmas.{timed-accessed}
 use Rattle.cookie_agent.proofs.rows.Rows.access.Goals as goal
 
 pub loop-place-preserved : goal.loop-place-preserved
@@ -23,6 +24,7 @@ loop-place-preserved c =
     let at = each-accessed site now slots old p so.each in
     rw c.access.ensures (record {
       index = so.index;
+      expiries = so.expiries;
       empty = so.empty;
       long = length-set slots p (option_map (accessed site now) (slot_at slots p)) ∙ so.long;
       each = λ k. ⊎_elim (λ is. inr ((at k).0 is)) (λ other. ⊎_elim (λ same. inl ((at k).1 other ∙ same)) (λ was. inr ((at k).1 other ∙ was)) (so.each k)) (cases_eq k p);
@@ -56,6 +58,7 @@ returns-clause-rows c =
     let long = so.long in
     let counted = c.requires.rows.counted in
     record {
+      timed = subst (λ e. AreTimed e slots) (sym so.expiries) (timed-accessed site now c.args.self.now.expiries slots old all c.requires.rows.timed);
       listed = subst (λ i. AreListed i slots) (sym so.index) (listed-accessed site now c.args.self.now.index slots old all c.requires.rows.listed);
       counted = omega (arith, same, empty, long, counted);
     }

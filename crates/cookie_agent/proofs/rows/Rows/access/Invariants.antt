@@ -7,6 +7,7 @@ use Rattle.cookie_agent.proofs.rows.Rows.access.Given as goal
 abbrev pub invariant-loop-place : goal.invariant-loop-place
 invariant-loop-place l = record {
   index : l.self.index ≡ l.initial.self.index;
+  expiries : l.self.expiries ≡ l.initial.self.expiries;
   empty : l.self.empty ≡ l.initial.self.empty;
   long : length l.self.slots.items ≡ length l.initial.self.slots.items;
   each : (k : ℕ) → (slot_at l.self.slots.items k ≡ slot_at l.initial.self.slots.items k)

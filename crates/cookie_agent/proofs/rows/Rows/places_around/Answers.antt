@@ -1,5 +1,4 @@
 -- Each cookie is listed at its domain.
-use Rattle.std.proofs.Common.{◌≡◌}
 use Rattle.std.proofs.lemmas.Result.{IfOk-weaker}
 use Rattle.cookie_agent.specs.IndexCode.{is_around}
 use Rattle.cookie_agent.specs.RowsCode.{slot_at}

@@ -1,8 +1,9 @@
 -- The other cookies stay in their slots.
-use Rattle.std.proofs.Common.{None, arith}
+use Rattle.std.proofs.Common.{None, ⊎_elim, arith}
 use Rattle.std.proofs.lemmas.List.{length-set}
 use Rattle.cookie_agent.specs.RowsCode.{Slots, slot_at}
 use Rattle.cookie_agent.proofs.SlotLemmas.{at-place, full_some, listed-out}
+use Rattle.cookie_agent.proofs.TimedLemmas.{timed-out}
 use Rattle.cookie_agent.proofs.rows.Rows.remove.Goals as goal
 
 pub returns-clause-rows : goal.returns-clause-rows
@@ -13,6 +14,7 @@ returns-clause-rows c =
     let long = length-set slots c.args.place None in
     let counted = c.requires.rows.counted in
     record {
+      timed = timed-out c.args.self.now.expiries c.remove.new.self slots c.requires.rows.timed c.args.place (λ n o other at. ⊎_elim (λ stay. stay) (λ it. absurd (other it.0)) (c.remove.ensures n o at));
       listed = listed-out c.args.self.now.index slots c.args.place c.requires.rows.listed;
       counted = omega (arith, fewer, long, counted);
     }

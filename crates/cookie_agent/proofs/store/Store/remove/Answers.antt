@@ -6,8 +6,7 @@ use Rattle.cookie_browser.specs.Storage.{CookieStore}
 use Rattle.cookie_agent.specs.LimitsCode.{blank}
 use Rattle.cookie_agent.specs.RowsCode.{Slots, held, slot_at}
 use Rattle.cookie_agent.specs.Stored.{IsApart, is_named_in}
-use Rattle.cookie_agent.specs.StoredCode.{IsFreshUntil}
-use Rattle.cookie_agent.proofs.RowLemmas.{All-remove, apart-remove, named-none, named-removed}
+use Rattle.cookie_agent.proofs.RowLemmas.{apart-remove, named-none, named-removed}
 use Rattle.cookie_agent.proofs.SlotLemmas.{at-place, has_full, has_some}
 use Rattle.cookie_agent.proofs.store.Store.remove.Goals as goal
 
@@ -24,7 +23,6 @@ invariant_of-self c =
     record {
       apart = subst IsApart (sym out) (apart-remove (held slots) at.place c.self.invariant.apart);
       rows = c.remove.ensures.rows;
-      fresh = subst (λ (s : CookieStore). All (IsFreshUntil inside.fresh_until) s) (sym out) (All-remove (IsFreshUntil inside.fresh_until) (held slots) at.place c.self.invariant.fresh);
     }
 
 pub returns-in-Some-clause-value : goal.returns-in-Some-clause-value

@@ -1,10 +1,8 @@
 -- An access leaves what is stored apart, and until when none is expired.
-use Rattle.std.proofs.Common.{All, sym, subst}
+use Rattle.std.proofs.Common.{sym, subst}
 use Rattle.cookie_browser.specs.Storage.{CookieStore}
 use Rattle.cookie_agent.specs.RowsCode.{held}
 use Rattle.cookie_agent.specs.Stored.{IsApart}
-use Rattle.cookie_agent.specs.StoredCode.{IsFreshUntil}
-use Rattle.cookie_agent.proofs.FreshLemmas.{all_accessed}
 use Rattle.cookie_agent.proofs.PutLemmas.{apart-accessed}
 use Rattle.cookie_agent.proofs.store.Store.retrieve.Goals as goal
 
@@ -16,5 +14,4 @@ invariant_of-self c =
     record {
       apart = subst IsApart (sym after.cookies) (apart-accessed c.args.site.now c.args.now cookies c.self.invariant.apart);
       rows = after.rows;
-      fresh = subst (λ (s : CookieStore). All (IsFreshUntil inside.fresh_until) s) (sym after.cookies) (all_accessed c.args.site.now c.args.now inside.fresh_until cookies c.self.invariant.fresh);
     }

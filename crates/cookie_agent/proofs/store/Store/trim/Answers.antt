@@ -2,12 +2,10 @@
 use Rattle.std.proofs.Common.{◌≡◌, ◌<◌, All, filter, length, sym, ap, subst, ◌∙◌}
 use Rattle.cookie_browser.specs.Storage.{CookieStore}
 use Rattle.cookie_agent.specs.Limits.{is_of_site, trimmed}
-use Rattle.cookie_agent.specs.LimitsCode.{blank, picked}
+use Rattle.cookie_agent.specs.LimitsCode.{picked}
 use Rattle.cookie_agent.specs.Stored.{IsApart}
-use Rattle.cookie_agent.specs.StoredCode.{IsFreshUntil}
 use Rattle.cookie_agent.specs.RowsCode.{held}
 use Rattle.cookie_agent.proofs.ApartLemmas.{apart-trimmed, trimmed-all, trimmed-part}
-use Rattle.cookie_agent.proofs.RowLemmas.{All-picked}
 use Rattle.cookie_agent.proofs.store.Store.trim.Goals as goal
 
 pub invariant_of-self : goal.invariant_of-self
@@ -27,8 +25,6 @@ invariant_of-self c =
     record {
       apart = subst IsApart (sym left) (apart-trimmed list limits now old c.cookies.ensures.apart);
       rows = c.keep.ensures.rows;
-      fresh = subst (λ (s : CookieStore). All (IsFreshUntil c.self.inside.fresh_until) s) (sym here)
-          (All-picked (IsFreshUntil c.self.inside.fresh_until) inside blank places c.self.invariant.fresh below);
     }
 
 pub returns-clause-needed : goal.returns-clause-needed
