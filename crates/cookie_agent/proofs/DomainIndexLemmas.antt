@@ -1,17 +1,18 @@
 -- The numbers at a domain, which stand in a map under its reverse.
-use Rattle.std.proofs.Common.{◌≡◌, ℕ, zero, suc, nat_eq, ◌+◌, ◌<◌, ◌==◌, ◌&&◌, Bool, true, false, cond, List, [], ◌∷◌, ◌++◌, length, take, get_or, reverse, Option, Some, None, bytes_eq, option_map, unwrap_or, refl, sym, ap, subst, ◌∙◌, inl, inr, ◌⊎◌, ⊎_elim, arith, Vec, Global}
+use Rattle.std.proofs.Common.{◌≡◌, ℕ, zero, suc, ◌+◌, ◌<◌, ◌==◌, ◌&&◌, not, Bool, true, false, cond, List, [], ◌∷◌, ◌++◌, length, take, get_or, reverse, Option, Some, None, bytes_eq, option_map, unwrap_or, refl, sym, ap, subst, ◌∙◌, inl, inr, ◌⊎◌, ⊎_elim, arith, Vec, Global}
 use Rattle.std.proofs.lemmas.Bool.{false≢true, and_parts, or_cases}
 use Rattle.std.proofs.lemmas.List.{append_assoc, get_or_at, length-append, reverse-append, take_at}
 use Rattle.std.proofs.lemmas.List.Elements.{Contains-append_right}
 use Rattle.std.proofs.lemmas.Slice.Eq.{bytes_eq-Decides}
 use Rattle.std.specs.BTreeMap.{BTreeMap, insert_entry}
+use Rattle.std.specs.BTreeMap.Range.{entries_between, range_contains}
 use Rattle.std.specs.Cmp.Lexicographic.{slice_cmp, texts_ties}
-use Rattle.std.proofs.lemmas.Map.Views.{list_any-from_Contains}
-use Rattle.std.proofs.lemmas.Cmp.{nat_eq_equiv}
-use Rattle.std.specs.List.{Contains, filter, list_any}
+use Rattle.std.proofs.lemmas.Map.Entries.{lookup-filter-keys}
+use Rattle.std.specs.List.{Contains, filter}
 use Rattle.std.specs.Map.{lookup, set_value}
-use Rattle.std.specs.Ordering.{is_eq, is_le, match_ordering, nat_cmp, ordering_then}
+use Rattle.std.specs.Ordering.{is_eq, is_gt, is_le, match_ordering, nat_cmp, ordering_then}
 use Rattle.std.specs.Cmp.{Equal-is, unsigned_ties}
+use Rattle.std.specs.declared.ops.Bound.TheVariants.{Excluded, Included}
 use Rattle.std.specs.declared.cmp.Ordering.{Ordering}
 use Rattle.std.specs.declared.cmp.Ordering.TheVariants.{Less, Equal, Greater}
 use Rattle.cookie_browser.specs.Request.{is_in_domain}
@@ -131,6 +132,10 @@ module _ (old new : List ℕ → List ℕ) (key ws : List ℕ) (written : (q : L
 
 -- ---- the index after a write
 
+-- the numbers of the first entry under the key
+abbrev pub numbers_of : List ℕ → List (Vec ℕ Global × Vec ℕ Global) → List ℕ
+numbers_of q es = unwrap_or (option_map (λ (v : Vec ℕ Global). v.items) (lookup (finds (λ (k : Vec ℕ Global). k.items) q) es)) []
+
 pub numbers-set : (m n : BTreeMap (Vec ℕ Global) (Vec ℕ Global)) (key : List ℕ) (w v : Vec ℕ Global)
     → Some v ≡ lookup (finds (λ (k : Vec ℕ Global). k.items) key) m.entries → n.entries ≡ set_value (finds (λ (k : Vec ℕ Global). k.items) key) m.entries w
     → (q : List ℕ) → numbers_at (record { numbers = n }) q ≡ cond (bytes_eq q key) w.items (numbers_at (record { numbers = m }) q)
@@ -179,6 +184,23 @@ ends_above : (p rest : List ℕ) → is_le (slice_cmp nat_cmp (p ++ 47 ∷ []) (
 ends_above [] rest = refl
 ends_above (x ∷ p) rest = ap (λ o. is_le (ordering_then o (slice_cmp nat_cmp (p ++ 47 ∷ []) (p ++ 46 ∷ rest)))) (same_order x) ∙ ends_above p rest
 
+dot_first : (p : List ℕ) → is_gt (slice_cmp nat_cmp (p ++ 46 ∷ []) (p ++ 47 ∷ [])) ≡ false
+dot_first [] = refl
+dot_first (x ∷ p) = ap (λ o. is_gt (ordering_then o (slice_cmp nat_cmp (p ++ 46 ∷ []) (p ++ 47 ∷ [])))) (same_order x) ∙ dot_first p
+
+-- the bounds of what begins with these bytes and a dot
+module _ (p low high : List ℕ) (from : low ≡ p ++ 46 ∷ []) (to : high ≡ p ++ 47 ∷ []) where
+  pub forward : is_gt (slice_cmp nat_cmp low high) ≡ false
+  forward = ap (λ l. is_gt (slice_cmp nat_cmp l high)) from ∙ ap (λ h. is_gt (slice_cmp nat_cmp (p ++ 46 ∷ []) h)) to ∙ dot_first p
+
+  within : (key rest : List ℕ) → key ≡ p ++ 46 ∷ rest → (is_le (slice_cmp nat_cmp low key) && not (is_le (slice_cmp nat_cmp high key))) ≡ true
+  within key rest is =
+      ap (λ k. is_le (slice_cmp nat_cmp low k) && not (is_le (slice_cmp nat_cmp high k))) is
+      ∙ ap (λ l. is_le (slice_cmp nat_cmp l (p ++ 46 ∷ rest)) && not (is_le (slice_cmp nat_cmp high (p ++ 46 ∷ rest)))) from
+      ∙ ap (λ h. is_le (slice_cmp nat_cmp (p ++ 46 ∷ []) (p ++ 46 ∷ rest)) && not (is_le (slice_cmp nat_cmp h (p ++ 46 ∷ rest)))) to
+      ∙ ap (λ b. b && not (is_le (slice_cmp nat_cmp (p ++ 47 ∷ []) (p ++ 46 ∷ rest)))) (begins_le p rest)
+      ∙ ap (λ b. not b) (ends_above p rest)
+
 -- ---- what is gathered
 
 -- the numbers under the domain's reverse, and under each part of it before a dot, are those of the domain and those above it
@@ -197,20 +219,44 @@ above-all index key domain found is whole dots other n inside listed =
     (subst (λ l. IsNumberAt index l n) (sym (ap (λ (l : List ℕ). take k l) parts ∙ take_at (reverse other) (46 ∷ below.0) k refl)) listed))
     (in_domain-reverse domain other inside)
 
--- a number that is live passes
-pub Contains-live : (live ns : List ℕ) (n : ℕ) → Contains live n → Contains ns n → Contains (filter (λ m. list_any (nat_eq m) live) ns) n
-Contains-live live ns n alive (k, below, is) = by ns k below is
+-- those of the next entry are found, or are still to come
+pub rest_more : (es rest : List (Vec ℕ Global × Vec ℕ Global)) (e : Vec ℕ Global × Vec ℕ Global) (found after : List ℕ) → es ≡ e ∷ rest → after ≡ found ++ e.1.items
+    → (q : List ℕ) (n : ℕ) → Contains (numbers_of q es) n → Contains after n ⊎ Contains (numbers_of q rest) n
+rest_more es rest e found after is more q n here = by (finds (λ (k : Vec ℕ Global). k.items) q e.0) (subst (λ l. Contains (numbers_of q l) n) is here)
   where
-    passes : list_any (nat_eq n) live ≡ true
-    passes = list_any-from_Contains {eq = nat_eq} nat_eq_equiv n live alive
+    by : (b : Bool) → Contains (unwrap_or (option_map (λ (v : Vec ℕ Global). v.items) (cond b (Some e.1) (lookup (finds (λ (k : Vec ℕ Global). k.items) q) rest))) []) n
+        → Contains after n ⊎ Contains (numbers_of q rest) n
+    by true there = inl (subst (λ l. Contains l n) (sym more) (Contains-append_right found e.1.items n there))
+    by false there = inr there
 
-    by : (ms : List ℕ) (j : ℕ) → j < length ms → get_or ms j n ≡ n → Contains (filter (λ m. list_any (nat_eq m) live) ms) n
+-- the numbers under the domain's reverse, and under each key that begins with it and a dot, are those of the domain and those below it
+pub below-all : (index : DomainIndex) (key domain : List ℕ) (low high : Vec ℕ Global) (found : List ℕ) → key ≡ reverse domain → low.items ≡ key ++ 46 ∷ [] → high.items ≡ key ++ 47 ∷ []
+    → ((n : ℕ) → IsNumberAt index key n → Contains found n)
+    → ((q : List ℕ) (n : ℕ) → Contains (numbers_of q (entries_between (λ (a b : Vec ℕ Global). slice_cmp nat_cmp a.items b.items) (Included low) (Excluded high) index.numbers.entries)) n → Contains found n)
+    → (other : List ℕ) (n : ℕ) → is_in_domain other false domain ≡ true → Lists index other n → Contains found n
+unfolding numbers_at
+below-all index key domain low high found is from to whole between other n inside listed =
+    let items : Vec ℕ Global → List ℕ = λ v. v.items in
+    ⊎_elim
+    (λ same. whole n (subst (λ k. IsNumberAt index k n) (ap (λ (d : List ℕ). reverse d) same ∙ sym is) listed))
+    (λ below.
+    let begins : reverse other ≡ key ++ 46 ∷ below.0 = below.1 ∙ ap (λ k. k ++ 46 ∷ below.0) (sym is) in
+    let kept = lookup-filter-keys (finds items (reverse other)) (range_contains (λ (a b : Vec ℕ Global). slice_cmp nat_cmp a.items b.items) (Included low) (Excluded high)) true
+    (λ k here. within key low.items high.items from to k.items below.0 (sym (same_bytes (reverse other) k.items (sym (finds-is items (reverse other) k) ∙ here)) ∙ begins)) index.numbers.entries in
+    between (reverse other) n (subst (λ o. Contains (unwrap_or (option_map items o) []) n) (sym kept) listed))
+    (in_domain-reverse other domain inside)
+
+-- a number that passes is left
+pub Contains-passing : (test : ℕ → Bool) (ns : List ℕ) (n : ℕ) → test n ≡ true → Contains ns n → Contains (filter test ns) n
+Contains-passing test ns n passes (k, below, is) = by ns k below is
+  where
+    by : (ms : List ℕ) (j : ℕ) → j < length ms → get_or ms j n ≡ n → Contains (filter test ms) n
     by [] j lt e = absurd (omega (arith, lt))
     by (m ∷ ms) zero lt e =
-        subst (λ x. Contains (cond (list_any (nat_eq x) live) (x ∷ filter (λ m. list_any (nat_eq m) live) ms) (filter (λ m. list_any (nat_eq m) live) ms)) n) (sym e)
-        (subst (λ b. Contains (cond b (n ∷ filter (λ m. list_any (nat_eq m) live) ms) (filter (λ m. list_any (nat_eq m) live) ms)) n) (sym passes) (0, omega arith, refl))
-    by (m ∷ ms) (suc j) lt e = onto (list_any (nat_eq m) live) (by ms j (omega (arith, lt)) e)
+        subst (λ x. Contains (cond (test x) (x ∷ filter test ms) (filter test ms)) n) (sym e)
+        (subst (λ b. Contains (cond b (n ∷ filter test ms) (filter test ms)) n) (sym passes) (0, omega arith, refl))
+    by (m ∷ ms) (suc j) lt e = onto (test m) (by ms j (omega (arith, lt)) e)
       where
-        onto : (b : Bool) → Contains (filter (λ m. list_any (nat_eq m) live) ms) n → Contains (cond b (m ∷ filter (λ m. list_any (nat_eq m) live) ms) (filter (λ m. list_any (nat_eq m) live) ms)) n
-        onto true rest = Contains-append_right (m ∷ []) (filter (λ m. list_any (nat_eq m) live) ms) n rest
+        onto : (b : Bool) → Contains (filter test ms) n → Contains (cond b (m ∷ filter test ms) (filter test ms)) n
+        onto true rest = Contains-append_right (m ∷ []) (filter test ms) n rest
         onto false rest = rest

@@ -3,7 +3,7 @@ pub mod BeyondLemmas
 pub mod CookiesTxtLemmas
 pub mod CutOutLemmas
 pub mod DomainIndexLemmas
-pub mod FreshLemmas
+pub mod ExpiriesLemmas
 pub mod GroupLemmas
 pub mod HistoryLemmas
 pub mod HostJarLemmas
@@ -33,8 +33,10 @@ pub mod SavedFormLemmas
 pub mod SavedLemmas
 pub mod SentFieldLemmas
 pub mod SiteLemmas
+pub mod SlotLemmas
 pub mod StorableLemmas
 pub mod StoreLemmas
 pub mod StoringLemmas
+pub mod TimedLemmas
 pub mod TrimLemmas
 pub mod VerdictLemmas

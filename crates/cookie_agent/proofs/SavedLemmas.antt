@@ -19,6 +19,18 @@ abbrev pub IsByPart : {X T : Type 0} → (ℕ → List X → List T) → Type 0
 IsByPart {X} {T} parts =
     (place : ℕ) (x : X) (xs : List X) → parts place (x ∷ xs) ≡ parts place (x ∷ []) ++ parts (place + 1) xs
 
+pub walk_next : {X T : Type 0} (parts : ℕ → List X → List T) → IsByPart parts
+    → (place : ℕ) (x : X) (xs rest : List X) (old new whole : List T)
+    → xs ≡ x ∷ rest
+    → new ≡ old ++ parts place (x ∷ [])
+    → old ++ parts place xs ≡ whole
+    → new ++ parts (place + 1) rest ≡ whole
+walk_next parts by_part place x xs rest old new whole left step before =
+    ap (λ t. t ++ parts (place + 1) rest) step
+    ∙ append_assoc old (parts place (x ∷ [])) (parts (place + 1) rest)
+    ∙ ap (λ t. old ++ t) (sym (by_part place x rest) ∙ ap (parts place) (sym left))
+    ∙ before
+
 pub walk_step : {X T : Type 0} (parts : ℕ → List X → List T) → IsByPart parts
     → (xs : List X) (i place : ℕ) (x : X) (old new whole : List T)
     → i < length xs → x ≡ get_or xs i x
@@ -27,11 +39,7 @@ pub walk_step : {X T : Type 0} (parts : ℕ → List X → List T) → IsByPart 
     → new ++ parts (place + 1) (drop (i + 1) xs) ≡ whole
 walk_step parts by_part xs i place x old new whole below is step before =
     let rest = drop (i + 1) xs in
-    let left : drop i xs ≡ x ∷ rest = drop_more xs i x below ∙ ap (λ y. y ∷ rest) (sym is) in
-    ap (λ t. t ++ parts (place + 1) rest) step
-    ∙ append_assoc old (parts place (x ∷ [])) (parts (place + 1) rest)
-    ∙ ap (λ t. old ++ t) (sym (by_part place x rest) ∙ ap (parts place) (sym left))
-    ∙ before
+    walk_next parts by_part place x (drop i xs) rest old new whole (drop_more xs i x below ∙ ap (λ y. y ∷ rest) (sym is)) step before
 
 pub walk_end : {X T : Type 0} (parts : ℕ → List X → List T) (xs : List X) (i place : ℕ) (old whole : List T)
     → length xs ≤ i → parts place [] ≡ []

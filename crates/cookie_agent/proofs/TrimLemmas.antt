@@ -1,5 +1,5 @@
 -- Which places stay: the search by an order against what the standard leaves.
-use Rattle.std.proofs.Common.{◌≡◌, ℕ, ◌+◌, ◌<◌, ◌≤◌, Bool, true, false, cond, List, [], ◌∷◌, ◌++◌, length, get_or, map, take, None, refl, sym, ap, subst, ◌∙◌, arith, append-nil}
+use Rattle.std.proofs.Common.{◌≡◌, ℕ, zero, suc, ◌+◌, ◌<◌, ◌≤◌, Bool, true, false, cond, List, [], ◌∷◌, ◌++◌, length, get_or, map, take, Bor, None, refl, sym, ap, subst, ◌∙◌, arith, append-nil}
 use Rattle.std.proofs.Math.ListN.{get_or-map}
 use Rattle.std.proofs.lemmas.List.{get_or_default, length-map, map-append}
 use Rattle.std.proofs.lemmas.List.Elements.{All-append, All-cons, All-filter, All-nil, All-weaker, filter_more}
@@ -10,6 +10,7 @@ use Rattle.cookie_browser.specs.Storage.{CookieStore, KeptView, lasting, lasts}
 use Rattle.cookie_browser.specs.Suffixes.{Rule}
 use Rattle.cookie_agent.specs.Limits.{IsWithin, counts, staying}
 use Rattle.cookie_agent.specs.LimitsCode.{AreOnce, IsInOrder, Rank, Rises, blank, comes_before, counted_by, picked, rank_at, rank_of, shares, stays, text_of}
+use Rattle.cookie_agent.specs.SentCode.{targets}
 use Rattle.cookie_agent.specs.declared.group.Group.{Group}
 use Rattle.cookie_agent.specs.declared.group.Group.TheVariants.{Domain, Site, Whole}
 use Rattle.cookie_agent.specs.declared.limits.Limits.{Limits}
@@ -170,3 +171,21 @@ is_within rules limits first second third few left fewer last fewest =
           let most = fewest blank in
           omega (arith, every, most);
     }
+
+-- ---- cookies that are lent
+
+pub target_at : (lent : List (Bor KeptView)) (i : ℕ) (b : Bor KeptView) → b ≡ get_or lent i b → b.now ≡ get_or (targets lent) i b.now
+target_at [] i b is = refl
+target_at (x ∷ lent) zero b is = ap (λ c. c.now) is
+target_at (x ∷ lent) (suc i) b is = target_at lent i b is
+
+abbrev pub rank_with : ℕ → List ℕ → KeptView → Rank
+rank_with place text cookie = record { place = place; text = text; cookie = cookie }
+
+-- the rank of a cookie that is lent, with its text
+pub rank_lent : (text : KeptView → List ℕ) (lent : List (Bor KeptView)) (place : ℕ) (b : Bor KeptView) (t : List ℕ) → place < length lent → b ≡ get_or lent place b → t ≡ text b.now
+    → rank_with place t b.now ≡ rank_at text (targets lent) place
+rank_lent text lent place b t below is by_text =
+    let size = length-map lent (λ (c : Bor KeptView). c.now) in
+    let here : b.now ≡ get_or (targets lent) place blank = target_at lent place b is ∙ get_or_default (targets lent) place b.now blank (omega (arith, below, size)) in
+    ap (λ u. rank_with place u b.now) by_text ∙ ap (λ (c : KeptView). rank_with place (text c) c) here

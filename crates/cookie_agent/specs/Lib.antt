@@ -2,6 +2,7 @@ pub mod Beyond
 pub mod BeyondCode
 pub mod CookiesTxt
 pub mod CookiesTxtCode
+pub mod ExpiriesCode
 pub mod Histories
 pub mod HostJars
 pub mod Hosts

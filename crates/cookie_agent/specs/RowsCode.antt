@@ -1,32 +1,48 @@
--- Mirrors private code: stored cookies, each with a number.
-use Rattle.std.specs.Prelude.{◌≤◌, ◌<◌, ℕ, suc, Bool, not, List, [], ◌∷◌, All, if◌then◌else◌}
-use Rattle.cookie_browser.specs.Storage.{KeptView, CookieStore, lasts}
+-- Mirrors private code: stored cookies, each in a slot. A slot may be empty.
+use Rattle.std.specs.Prelude.{◌≡◌, ◌+◌, ℕ, ℤ, Bool, false, List, Option, Some, None, length, slice_index_or}
+use Rattle.std.specs.List.{filter_map}
+use Rattle.cookie_browser.specs.Storage.{KeptView, CookieStore}
+use Rattle.cookie_agent.specs.ExpiriesCode.{IsTimed}
 use Rattle.cookie_agent.specs.IndexCode.{Lists}
-use Rattle.cookie_agent.specs.Stored.{is_of_domain}
 use Rattle.cookie_agent.specs.declared.domain_index.DomainIndex.{DomainIndex}
+use Rattle.cookie_agent.specs.declared.expiries.Expiries.{Expiries}
 use Rattle.cookie_agent.specs.declared.rows.Rows.{Rows}
-use Rattle.cookie_agent.specs.declared.sweep.Sweep.{Sweep}
-use Rattle.cookie_agent.specs.declared.sweep.Sweep.TheVariants.{Domain, Expired}
 
--- the numbers ascend from this one or one above it, and each is at the domain of its cookie
-abbrev pub AreListed : DomainIndex → ℕ → List ℕ → CookieStore → Type 0
-AreListed index least [] [] = Unit {0}
-AreListed index least (n ∷ ns) (c ∷ cs) =
-    (least ≤ n) × (Lists index c.domain n × AreListed index (suc n) ns cs)
-AreListed index least _ _ = ⊥
+abbrev pub Slots : Type 0
+Slots = List (Option KeptView)
 
--- each cookie has a number below the next one, at which it is found
+-- the cookies of the slots, in their order
+abbrev pub held : Slots → CookieStore
+held slots = filter_map (λ slot. slot) slots
+
+-- what the slot has; none is after the last
+abbrev pub slot_at : Slots → ℕ → Option KeptView
+slot_at slots place = slice_index_or slots place None
+
+-- it has a cookie that passes the test
+abbrev pub has : (KeptView → Bool) → Option KeptView → Bool
+has test None = false
+has test (Some cookie) = test cookie
+
+-- the expiry of what the slot has
+abbrev pub expiry_at : Option KeptView → Option ℤ
+expiry_at None = None
+expiry_at (Some cookie) = cookie.expiry
+
+-- each slot that isn't empty is at the domain of its cookie
+abbrev pub AreListed : DomainIndex → Slots → Type 0
+AreListed index slots =
+    (place : ℕ) (cookie : KeptView) → slot_at slots place ≡ Some cookie
+    → Lists index cookie.domain place
+
+-- each slot that isn't empty is at the expiry of its cookie, if that has one
+abbrev pub AreTimed : Expiries → Slots → Type 0
+AreTimed expiries slots =
+    (place : ℕ) (cookie : KeptView) → slot_at slots place ≡ Some cookie
+    → IsTimed expiries place cookie.expiry
+
+-- each cookie is found by its domain and its expiry, and the empty slots are counted
 pub record AreRows (rows : Rows) : Type 0 where
-  pub listed : AreListed rows.index 0 rows.numbers.items rows.cookies.items
-  pub below : All (λ n. n < rows.next) rows.numbers.items
-
--- the cookie stays
-abbrev pub keeps : Sweep → KeptView → Bool
-keeps (Expired now) cookie = lasts cookie.expiry now
-keeps (Domain domain) cookie = not (is_of_domain domain.now cookie)
-
--- the numbers of the cookies that pass
-abbrev pub numbers_left : (KeptView → Bool) → List ℕ → CookieStore → List ℕ
-numbers_left test (n ∷ ns) (c ∷ cs) =
-    if test c then n ∷ numbers_left test ns cs else numbers_left test ns cs
-numbers_left test _ _ = []
+  pub listed : AreListed rows.index rows.slots.items
+  pub timed : AreTimed rows.expiries rows.slots.items
+  pub counted : rows.empty + length (held rows.slots.items) ≡ length rows.slots.items

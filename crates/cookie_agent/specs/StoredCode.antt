@@ -1,12 +1,11 @@
 -- Mirrors private code: where a cookie is put among stored ones.
-use Rattle.std.specs.Prelude.{◌≡◌, ◌&&◌, ℕ, ℤ, int_lt, Bool, true, false, pos, [], All, None}
+use Rattle.std.specs.Prelude.{◌≡◌, ◌&&◌, ℕ, Bool, false, pos, [], None}
 use Rattle.std.specs.BTreeMap.{BTreeMap, get}
 use Rattle.std.specs.List.{position_from}
 use Rattle.jiff.specs.Types.{DateTime}
-use Rattle.jiff.specs.Words.{civil_nanos}
 use Rattle.cookie_browser.specs.Storage.{KeptView, CookieStore, is_same_cookie, lasts}
 use Rattle.cookie_browser.specs.declared.enforcement.Enforcement.TheVariants as enforcement
-use Rattle.cookie_agent.specs.RowsCode.{AreRows}
+use Rattle.cookie_agent.specs.RowsCode.{AreRows, held}
 use Rattle.cookie_agent.specs.Stored.{IsApart}
 use Rattle.cookie_agent.specs.declared.key.Key.{Key}
 use Rattle.cookie_agent.specs.declared.rows.Rows.{Rows}
@@ -38,13 +37,7 @@ ArePlaces places store =
     (key : Key) → get (key_ord.ghosts).cmp places key
     ≡ position_from (λ cookie. is_same_cookie cookie (key_view key)) 0 store
 
--- it isn't expired before the time, in nanoseconds since 1970
-abbrev pub IsFreshUntil : ℤ → KeptView → Type 0
-IsFreshUntil end cookie =
-    (now : DateTime) → int_lt (civil_nanos now) end ≡ true → lasts cookie.expiry now ≡ true
-
--- what a store knows of its cookies: no two are the same, each is found, and none is expired before the time
-pub record AreStored (stored : Rows) (fresh_until : ℤ) : Type 0 where
-  pub apart : IsApart stored.cookies.items
+-- what a store knows of its cookies: no two are the same, and each is found
+pub record AreStored (stored : Rows) : Type 0 where
+  pub apart : IsApart (held stored.slots.items)
   pub rows : AreRows stored
-  pub fresh : All (IsFreshUntil fresh_until) stored.cookies.items

@@ -1,9 +1,9 @@
 //! A user agent (RFC 6265bis, Storage Model, Retrieval Algorithm).
-ghost use Rattle.std.specs.Prelude.{◌≡◌, ◌&&◌, not, [], filter, IfOk, OnOk, OnErr, Ok, map};
+ghost use Rattle.std.specs.Prelude.{◌≡◌, not, [], filter, IfOk, OnOk, OnErr, Ok, map};
 ghost use Rattle.std.specs.List.{list_any};
 ghost use Rattle.cookie_browser.specs.ReceivedCode.{received_view};
 ghost use Rattle.cookie_browser.specs.RefusedCode.{kept_view, request_view};
-ghost use Rattle.cookie_browser.specs.Storage.{is_overlaid, lasting, lasts, overlays, verdict_on};
+ghost use Rattle.cookie_browser.specs.Storage.{lasting, overlays, verdict_on};
 ghost use Rattle.cookie_agent.specs.HostJars.{AreOwnOriginals, AreOwnSet, IsLastOwn};
 ghost use Rattle.cookie_agent.specs.Hosts.{AreOnlyOwn};
 ghost use Rattle.cookie_agent.specs.Limits.{IsWithin, trimmed};
@@ -15,7 +15,7 @@ ghost use Rattle.cookie_agent.specs.Store.{agent_after_text, agent_verdict, refu
 ghost use Rattle.cookie_agent.specs.Stored.{is_named_in, is_of_domain};
 ghost use Rattle.cookie_agent.specs.VerdictCode.{verdict_result};
 
-use crate::header::{by_path, joined_pairs, visible};
+use crate::cookies::Cookies;
 use crate::limits::Limits;
 use crate::scope::Scope;
 use crate::site::Site;
@@ -104,7 +104,7 @@ impl<'r> Agent<'r> {
             .to_ascii_lowercase(self.store.alloc())?;
         let request = site.request();
         let new = KeptCookie::of(self.suffixes, &request, received, domain.as_slice());
-        let overlays = overlays(self.store.cookies(), &request, &new, now);
+        let overlays = overlays(&self.store, &request, &new, now)?;
         if let Some(refusal) = refused_with(
             self.suffixes,
             &request,
@@ -180,10 +180,7 @@ impl<'r> Agent<'r> {
         ensures only_own { AreOnlyOwn }
         ensures own_originals { AreOwnOriginals }
     {
-        let places = self.store.places(site.host())?;
-        let sent = visible(self.store.alloc(), self.store.cookies(), &places, site, now)?;
-        let sent = by_path(sent)?;
-        joined_pairs(self.store.alloc(), &sent)
+        self.store.header(site, now)
     }
 
     /// Does what [`header`](Agent::header) says, for a request that is made: `now` becomes the last access of each
@@ -196,9 +193,7 @@ impl<'r> Agent<'r> {
             ≡ record self.old { cookies = map (accessed site.now now) self.old.cookies }) }
         ensures err { OnErr result (self.new ≡ self.old) }
     {
-        let header = self.header(site, now)?;
-        self.store.access(site, now);
-        Ok(header)
+        self.store.retrieve(site, now)
     }
 
     /// Drops what is expired at the time `now` in UTC, and then the cookies above the limits, as [`Store::trim`] says.
@@ -245,8 +240,8 @@ impl<'r> Agent<'r> {
     }
 
     /// The cookies that it stores, in the order of their creation. Some may be expired.
-    pub fn cookies(&self) -> &[StoredCookie]
-        ensures { result.now ≡ self.now.cookies }
+    pub fn cookies(&self) -> Cookies<'_>
+        ensures { result ≡ self.now.cookies }
     {
         self.store.cookies()
     }
@@ -263,27 +258,17 @@ impl<'r> Agent<'r> {
 }
 
 // Whether the new cookie would overlay one that isn't expired.
-#[tactic(auto, using(crate::proofs::RefusalLemmas::any_lasting))]
 fn overlays(
-    cookies: &[StoredCookie],
+    store: &Store,
     request: &BrowserRequest<'_>,
     new: &KeptCookie<'_>,
     now: DateTime,
-) -> bool
-    ensures { result
-        ≡ overlays (request_view request.now) (lasting now cookies.now) (kept_view new.now) }
+) -> Result<bool, AllocError>
+    ensures { IfOk result (λ found. found
+        ≡ overlays (request_view request.now) (lasting now store.now) (kept_view new.now)) }
 {
-    !new.is_secure_only && !request.is_secure && any_overlaid(cookies, request, new, now)
-}
-
-fn any_overlaid(
-    cookies: &[StoredCookie],
-    request: &BrowserRequest<'_>,
-    new: &KeptCookie<'_>,
-    now: DateTime,
-) -> bool
-    ensures { result ≡ list_any (λ old. lasts old.expiry now
-        && is_overlaid (request_view request.now) (kept_view new.now) old) cookies.now }
-{
-    cookies.iter().any(|old| old.as_kept().is_overlaid_by(new, request) && old.lasts(now))
+    if new.is_secure_only || request.is_secure {
+        return Ok(false);
+    }
+    store.overlays(request, new, now)
 }

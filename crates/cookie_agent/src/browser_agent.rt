@@ -281,7 +281,7 @@ fn trim_site(
         return Ok(());
     }
     let left = left_at_site(alloc, suffixes, found, now)?;
-    stay(cookies, suffixes, host, left.cookies());
+    stay(cookies, suffixes, host, &left);
     Ok(())
 }
 
@@ -326,17 +326,17 @@ fn left_at_site(
 }
 
 // Keeps the cookies of other sites, and those at the host's site that are left.
-fn stay(cookies: &mut Vec<BrowserCookie>, suffixes: &Suffixes, host: &[u8], left: &[StoredCookie])
+fn stay(cookies: &mut Vec<BrowserCookie>, suffixes: &Suffixes, host: &[u8], left: &Store)
     ensures { cookies.new.items
         ≡ staying_at_site suffixes.now host.now left.now cookies.old.items }
 {
     cookies.retain(|cookie| !cookie.is_at_site(suffixes, host) || is_among(left, cookie));
 }
 
-fn is_among(left: &[StoredCookie], cookie: &BrowserCookie) -> bool
+fn is_among(left: &Store, cookie: &BrowserCookie) -> bool
     ensures { result ≡ is_among left.now cookie.now }
 {
-    left.iter().any(|stored| cookie.is_one_with(stored))
+    left.cookies().any(|stored| cookie.is_one_with(stored))
 }
 
 // The received cookie, with another domain.

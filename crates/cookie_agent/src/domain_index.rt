@@ -1,16 +1,17 @@
 //! The numbers of stored cookies by their domains.
-ghost use Rattle.std.specs.Prelude.{◌≡◌, ℕ, List, true, false, Contains, reverse, IfOk, OnOk};
+ghost use Rattle.std.specs.Prelude.{◌≡◌, ◌++◌, ℕ, List, [], ◌∷◌, true, false, Contains, is_some, reverse, IfOk, OnOk};
 ghost use Rattle.cookie_browser.specs.Request.{is_in_domain};
-ghost use Rattle.cookie_agent.specs.IndexCode.{IsNumberAt, Lists, numbers_at};
-ghost use Rattle.cookie_agent.specs.LimitsCode.{Ascends};
+ghost use Rattle.cookie_agent.specs.IndexCode.{IsNumberAt, Lists, is_around, numbers_at};
+ghost use Rattle.cookie_agent.specs.RowsCode.{slot_at};
 
 use crate::bytes::copied;
-use crate::place::is_among;
+use crate::slots::is_full;
+use crate::stored::StoredCookie;
 use std::alloc::{AllocError, Global};
 use std::collections::BTreeMap;
 
-// The numbers of cookies by the domain's bytes in the reverse order, so that what is below a domain follows it. Numbers
-// of cookies that are gone may stay.
+// The slots of cookies by the domain's bytes in the reverse order, so that what is below a domain follows it. Slots of
+// cookies that are gone may stay.
 #[derive(Drop)]
 pub(crate) struct DomainIndex {
     numbers: BTreeMap<Vec<u8>, Vec<usize>>,
@@ -54,14 +55,13 @@ impl DomainIndex {
         Ok(())
     }
 
-    // Drops the numbers at the domain whose reverse this is that aren't among the live ones.
-    pub(crate) fn prune(&mut self, key: &[u8], live: &[usize])
-        requires { Ascends 0 live.now }
-        ensures { (other : List ℕ) (n : ℕ)
-            → Contains live.now n → IsNumberAt self.old other n → IsNumberAt self.new other n }
+    // Drops the numbers of empty slots at the domain whose reverse this is.
+    pub(crate) fn prune(&mut self, key: &[u8], slots: &[Option<StoredCookie>])
+        ensures { (other : List ℕ) (n : ℕ) → is_some (slot_at slots.now n) ≡ true
+            → IsNumberAt self.old other n → IsNumberAt self.new other n }
     {
         if let Some(numbers) = self.numbers.get_mut(key) {
-            numbers.retain(|&number| is_among(live, number));
+            numbers.retain(|&number| is_full(slots, number));
         }
     }
 
@@ -81,6 +81,36 @@ impl DomainIndex {
         }
         Ok(found)
     }
+
+    // The numbers of the domain and of those below it.
+    pub(crate) fn below(&self, alloc: Global, domain: &[u8]) -> Result<Vec<usize>, AllocError>
+        ensures { IfOk result (λ found. (other : List ℕ) (n : ℕ)
+            → is_in_domain other false domain.now ≡ true → Lists self.now other n
+            → Contains found.items n) }
+    {
+        let key = reversed(alloc, domain)?;
+        let mut found = Vec::new(alloc);
+        found.extend_from_slice(self.at(&key))?;
+
+        // The keys of the domains below it begin with its own and a dot.
+        let start = followed(alloc, &key, b'.')?;
+        let end = followed(alloc, &key, b'.' + 1)?;
+        for (_, numbers) in self.numbers.range(&start..&end) {
+            found.extend_from_slice(numbers)?;
+        }
+        Ok(found)
+    }
+
+    // The numbers of the domain, of those above it and of those below it.
+    pub(crate) fn around(&self, alloc: Global, domain: &[u8]) -> Result<Vec<usize>, AllocError>
+        ensures { IfOk result (λ found. (other : List ℕ) (n : ℕ)
+            → is_around domain.now other ≡ true → Lists self.now other n
+            → Contains found.items n) }
+    {
+        let mut found = self.above(alloc, domain)?;
+        found.extend_from_slice(&self.below(alloc, domain)?)?;
+        Ok(found)
+    }
 }
 
 // The bytes in the reverse order.
@@ -89,5 +119,14 @@ pub(crate) fn reversed(alloc: Global, text: &[u8]) -> Result<Vec<u8>, AllocError
 {
     let mut made = copied(alloc, text)?;
     made.reverse();
+    Ok(made)
+}
+
+// The bytes, and this one after them.
+fn followed(alloc: Global, text: &[u8], byte: u8) -> Result<Vec<u8>, AllocError>
+    ensures { IfOk result (λ made. made.items ≡ text.now ++ byte ∷ []) }
+{
+    let mut made = copied(alloc, text)?;
+    made.push(byte)?;
     Ok(made)
 }

@@ -1,27 +1,26 @@
 //! A store of cookies (RFC 6265bis, Storage Model).
-ghost use Rattle.std.specs.Prelude.{◌≡◌, ◌<◌, ◌≤ℤ◌, ◌++◌, ◌&&◌, ℕ, not, true, false, [], All, Contains, filter, length, map, slice_index_or, IfOk, OnOk, OnErr, MatchOption};
+ghost use Rattle.std.specs.Prelude.{◌≡◌, ◌++◌, not, true, false, [], filter, length, map, option_copied, slice_get, IfOk, OnOk, OnErr};
 ghost use Rattle.std.specs.List.{list_any};
-ghost use Rattle.cookie_browser.specs.Request.{is_in_domain};
-ghost use Rattle.cookie_browser.specs.Storage.{kept_with, lasting};
+ghost use Rattle.cookie_browser.specs.RefusedCode.{kept_view, request_view};
+ghost use Rattle.cookie_browser.specs.Storage.{is_overlaid, kept_with, lasting};
 ghost use Rattle.cookie_agent.specs.Limits.{IsWithin, trimmed};
-ghost use Rattle.cookie_agent.specs.Sent.{accessed};
+ghost use Rattle.cookie_agent.specs.Sent.{IsOrderedHeader, accessed};
 ghost use Rattle.cookie_agent.specs.Sites.{TrimsApart};
 ghost use Rattle.cookie_agent.specs.Stored.{IsApart, is_named_in, is_of_domain, kept_with_each};
-ghost use Rattle.cookie_agent.specs.LimitsCode.{IsInOrder, blank};
-ghost use Rattle.cookie_agent.specs.RowsCode.{AreRows};
-ghost use Rattle.cookie_agent.specs.StoredCode.{AreStored, IsFreshUntil};
+ghost use Rattle.cookie_agent.specs.RowsCode.{held};
+ghost use Rattle.cookie_agent.specs.StoredCode.{AreStored};
 
-use crate::domain_index::reversed;
+use crate::cookies::Cookies;
+use crate::header::header_of;
 use crate::in_turn::stored_in_turn;
 use crate::limits::Limits;
-use crate::nanos::nanos_of;
+use crate::overlaid::any_overlaid;
 use crate::rows::Rows;
 use crate::scope::Scope;
 use crate::site::Site;
 use crate::stored::StoredCookie;
-use crate::sweep::Sweep;
 use crate::trim::places_within;
-use cookie_browser::{Enforcement, KeptCookie, Suffixes};
+use cookie_browser::{BrowserRequest, KeptCookie, Suffixes};
 use jiff::civil::DateTime;
 use std::alloc::{AllocError, Global};
 use std::marker::Model;
@@ -32,19 +31,18 @@ use std::marker::Model;
 pub struct Store {
     alloc: Global,
     rows: Rows,
-    // Nanoseconds since 1970 before which no cookie is expired.
-    fresh_until: i128,
 }
 
 impl Model for Store {
     ghost use Rattle.cookie_browser.specs.Storage.{CookieStore};
+    ghost use Rattle.cookie_agent.specs.RowsCode.{held};
     ghost use Rattle.cookie_agent.specs.StoredCode.{AreStored};
 
     ghost Value = { CookieStore };
 
-    ghost view = { λ s. s.rows.cookies.items };
+    ghost view = { λ s. held s.rows.slots.items };
 
-    ghost invariant = { λ s. AreStored s.rows s.fresh_until };
+    ghost invariant = { λ s. AreStored s.rows };
 }
 
 impl Store {
@@ -55,7 +53,6 @@ impl Store {
         Store {
             alloc,
             rows: Rows::new(alloc),
-            fresh_until: i128::MAX,
         }
     }
 
@@ -74,13 +71,8 @@ impl Store {
         requires { IsApart cookies.items }
         ensures { IfOk result (λ store. store ≡ cookies.items) }
     {
-        let fresh_until = fresh_until(&cookies);
         let rows = Rows::of(alloc, cookies)?;
-        Ok(Store {
-            alloc,
-            rows,
-            fresh_until,
-        })
+        Ok(Store { alloc, rows })
     }
 
     /// Stores each of these cookies in turn, but for those that are expired at the time `now` in UTC: it takes the place
@@ -93,18 +85,39 @@ impl Store {
         let mut all = copies(self.alloc, self.cookies())?;
         push_lasting(&mut all, cookies, now)?;
         let all = stored_in_turn(self.alloc, all)?;
-        let fresh_until = fresh_until(&all);
-        self.rows = Rows::of(self.alloc, all)?;
-        self.fresh_until = fresh_until;
+        *self = Store::of_different(self.alloc, all)?;
         Ok(())
     }
 
     /// The cookies, in the order of their creation. Some may be expired.
-    pub fn cookies(&self) -> &[StoredCookie]
-        ensures value { result.now ≡ self.now }
+    pub fn cookies(&self) -> Cookies<'_>
+        ensures value { result ≡ self.now }
         ensures apart { IsApart self.now }
     {
-        self.rows.cookies.as_slice()
+        self.rows.cookies()
+    }
+
+    /// How many cookies there are. Some may be expired.
+    pub fn len(&self) -> usize
+        ensures { result ≡ length self.now }
+    {
+        self.rows.len()
+    }
+
+    /// The cookie at this place in [`cookies`](Store::cookies), or `None` if there are no more. It takes constant time
+    /// after [`pack`](Store::pack), and else as long as a walk to the place.
+    pub fn cookie_at(&self, place: usize) -> Option<&StoredCookie>
+        ensures { option_copied result ≡ slice_get self.now place }
+    {
+        self.rows.cookie_at(place)
+    }
+
+    /// Moves the cookies together, which removals leave apart, so that [`cookie_at`](Store::cookie_at) takes constant
+    /// time. Out of memory it does nothing.
+    pub fn pack(&mut self)
+        ensures { self.new ≡ self.old }
+    {
+        let _ = self.rows.pack(self.alloc);
     }
 
     /// Removes the cookie of this name and this scope, expired or not, and returns whether there was one.
@@ -113,7 +126,7 @@ impl Store {
             ≡ filter (λ cookie. not (is_named_in name.now scope.now cookie)) self.old }
         ensures found { result ≡ list_any (is_named_in name.now scope.now) self.old }
     {
-        match self.place(name, scope) {
+        match self.rows.find_named(self.alloc, name, scope) {
             Some(place) => {
                 self.rows.remove(place);
                 true
@@ -128,7 +141,7 @@ impl Store {
     pub fn clear_domain(&mut self, domain: &[u8])
         ensures { self.new ≡ filter (λ cookie. not (is_of_domain domain.now cookie)) self.old }
     {
-        self.rows.sweep(&Sweep::Domain(domain));
+        self.rows.clear_domain(domain);
     }
 
     /// Removes all cookies.
@@ -142,7 +155,7 @@ impl Store {
     pub fn evict(&mut self, now: DateTime)
         ensures { self.new ≡ lasting now self.old }
     {
-        self.fresh_until = drop_expired(&mut self.rows, self.fresh_until, now);
+        self.rows.evict(now);
     }
 
     /// Drops what is expired at the time `now` in UTC, and then the cookies above the limits, as RFC 6265bis orders
@@ -193,96 +206,50 @@ impl Store {
             ≡ lasting now (kept_with cookie (lasting now self.old))) }
         ensures err { OnErr result (self.new ≡ self.old) }
     {
-        let fresh_until = sooner(self.fresh_until, cookie.fresh_until());
         self.rows.put(self.alloc, cookie, now)?;
-        self.fresh_until = drop_expired(&mut self.rows, fresh_until, now);
+        self.rows.evict(now);
         Ok(())
     }
 
-    // The place of the cookie of this name and this scope.
-    fn place(&self, name: &[u8], scope: &Scope) -> Option<usize>
-        ensures { MatchOption result
-            (All (λ cookie. is_named_in name.now scope.now cookie ≡ false) self.now)
-            (λ place. (place < length self.now)
-            × (is_named_in name.now scope.now (slice_index_or self.now place blank) ≡ true)) }
+    // Whether the new cookie would overlay one that isn't expired, if it comes over an insecure connection.
+    pub(crate) fn overlays(
+        &self,
+        request: &BrowserRequest<'_>,
+        new: &KeptCookie<'_>,
+        now: DateTime,
+    ) -> Result<bool, AllocError>
+        ensures { IfOk result (λ found. found ≡ list_any
+            (is_overlaid (request_view request.now) (kept_view new.now)) (lasting now self.now)) }
     {
-        // Without memory for the key it looks at each cookie.
-        let Ok(key) = reversed(self.alloc, scope.domain()) else {
-            return self
-                .cookies()
-                .iter()
-                .position(|cookie| cookie.is_named_in(name, scope));
-        };
-        self.rows.find(
-            &key,
-            &KeptCookie {
-                name,
-                value: b"",
-                domain: scope.domain(),
-                is_host_only: scope.is_host_only(),
-                path: scope.path(),
-                is_secure_only: false,
-                is_http_only: false,
-                same_site: Enforcement::None,
-            },
-        )
+        let places = self.rows.places_around(self.alloc, new.domain)?;
+        Ok(any_overlaid(&self.rows.slots, &places, request, new, now))
     }
 
-    // The places of the cookies that may be sent to a host, and of others.
-    pub(crate) fn places(&self, host: &[u8]) -> Result<Vec<usize>, AllocError>
-        ensures in_order { IfOk result (λ places. IsInOrder (length self.now) places.items) }
-        ensures found { IfOk result (λ places. (place : ℕ) → place < length self.now
-            → is_in_domain host.now false (slice_index_or self.now place blank).domain ≡ true
-            → Contains places.items place) }
+    // The header of the cookies that are sent.
+    pub(crate) fn header(&self, site: &Site, now: DateTime) -> Result<Vec<u8>, AllocError>
+        ensures { IfOk result (λ header. IsOrderedHeader site.now now self.now header.items) }
     {
-        self.rows.places(self.alloc, host)
+        let places = self.rows.places(self.alloc, site)?;
+        header_of(self.alloc, &self.rows.slots, &places, site, now)
     }
 
-    // Sets the last access of each cookie that is sent.
-    pub(crate) fn access(&mut self, site: &Site, now: DateTime)
-        ensures { self.new ≡ map (accessed site.now now) self.old }
+    // The header of the cookies that are sent, whose last access it sets. After an error the store is as before.
+    pub(crate) fn retrieve(&mut self, site: &Site, now: DateTime) -> Result<Vec<u8>, AllocError>
+        ensures value { IfOk result (λ header.
+            IsOrderedHeader site.now now self.old header.items) }
+        ensures ok { OnOk result (self.new ≡ map (accessed site.now now) self.old) }
+        ensures err { OnErr result (self.new ≡ self.old) }
     {
-        self.rows.access(site, now);
+        let places = self.rows.places(self.alloc, site)?;
+        let header = header_of(self.alloc, &self.rows.slots, &places, site, now)?;
+        self.rows.access(&places, site, now);
+        Ok(header)
     }
-}
-
-// The lesser of two times.
-fn sooner(time: i128, other: i128) -> i128
-    ensures first { result ≤ℤ time }
-    ensures second { result ≤ℤ other }
-{
-    if time < other { time } else { other }
-}
-
-// Nanoseconds since 1970 before which none of the cookies is expired.
-fn fresh_until(cookies: &[StoredCookie]) -> i128
-    ensures { All (IsFreshUntil result) cookies.now }
-{
-    let mut end = i128::MAX;
-    for cookie in cookies {
-        end = sooner(end, cookie.fresh_until());
-    }
-    end
-}
-
-// Drops the cookies that are expired. None is before the time `fresh_until`, nor are the others before the result.
-fn drop_expired(rows: &mut Rows, fresh_until: i128, now: DateTime) -> i128
-    requires rows { AreRows rows.old }
-    requires fresh { All (IsFreshUntil fresh_until) rows.old.cookies.items }
-    ensures cookies { rows.new.cookies.items ≡ lasting now rows.old.cookies.items }
-    ensures rows { AreRows rows.new }
-    ensures fresh { All (IsFreshUntil result) rows.new.cookies.items }
-{
-    if nanos_of(now) < fresh_until {
-        return fresh_until;
-    }
-    rows.sweep(&Sweep::Expired(now));
-    self::fresh_until(&rows.cookies)
 }
 
 // Copies of the cookies.
-fn copies(alloc: Global, cookies: &[StoredCookie]) -> Result<Vec<StoredCookie>, AllocError>
-    ensures { IfOk result (λ made. made.items ≡ cookies.now) }
+fn copies(alloc: Global, cookies: Cookies<'_>) -> Result<Vec<StoredCookie>, AllocError>
+    ensures { IfOk result (λ made. made.items ≡ cookies.entry) }
 {
     let mut made = Vec::new(alloc);
     for cookie in cookies {

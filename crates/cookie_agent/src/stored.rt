@@ -6,7 +6,7 @@ ghost use Rattle.cookie_browser.specs.RefusedCode.{kept_view};
 ghost use Rattle.cookie_browser.specs.Storage.{is_same_cookie, is_sent, lasts};
 ghost use Rattle.cookie_agent.specs.Sent.{accessed, path_length, sent_pair};
 ghost use Rattle.cookie_agent.specs.Stored.{is_named_in, is_of_domain};
-ghost use Rattle.cookie_agent.specs.StoredCode.{IsFreshUntil, key_view};
+ghost use Rattle.cookie_agent.specs.StoredCode.{key_view};
 
 use crate::bytes::copied;
 use crate::key::Key;
@@ -127,11 +127,11 @@ impl StoredCookie {
         self.expiry.lasts(now)
     }
 
-    // Nanoseconds since 1970 before which it isn't expired.
-    pub(crate) fn fresh_until(&self) -> i128
-        ensures { IsFreshUntil result self.now }
+    // Its expiry in nanoseconds since 1970, if it has one.
+    pub(crate) fn expiry_nanos(&self) -> Option<i128>
+        ensures { result ≡ self.now.expiry }
     {
-        expiry_nanos(self.expiry).unwrap_or(i128::MAX)
+        expiry_nanos(self.expiry)
     }
 
     // Whether it has the same name, domain, host-only flag and path.

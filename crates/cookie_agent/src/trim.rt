@@ -4,7 +4,9 @@ ghost use Rattle.std.specs.List.Sorted.{IsPermutation};
 ghost use Rattle.cookie_browser.specs.Storage.{KeptView, lasting};
 ghost use Rattle.cookie_agent.specs.Limits.{IsWithin, counts, staying, trimmed};
 ghost use Rattle.cookie_agent.specs.LimitsCode.{AreOnce, IsInOrder, Rank, Rises, comes_before, counted_by, picked, rank_at, rank_of, ranks, stays, text_of};
+ghost use Rattle.cookie_agent.specs.SentCode.{targets};
 
+use crate::cookies::Cookies;
 use crate::group::Group;
 use crate::limits::Limits;
 use crate::ranked::Ranked;
@@ -17,15 +19,34 @@ use std::alloc::{AllocError, Global};
 pub(crate) fn places_within(
     alloc: Global,
     suffixes: &Suffixes,
-    cookies: &[StoredCookie],
+    cookies: Cookies<'_>,
     limits: Limits,
     now: DateTime,
 ) -> Result<Vec<usize>, AllocError>
     ensures value { IfOk result (λ places.
-        picked cookies.now places.items ≡ trimmed suffixes.now limits now cookies.now) }
-    ensures in_order { IfOk result (λ places. IsInOrder (length cookies.now) places.items) }
+        picked cookies.entry places.items ≡ trimmed suffixes.now limits now cookies.entry) }
+    ensures in_order { IfOk result (λ places. IsInOrder (length cookies.entry) places.items) }
     ensures within { IfOk result (λ places.
-        IsWithin suffixes.now limits (picked cookies.now places.items)) }
+        IsWithin suffixes.now limits (picked cookies.entry places.items)) }
+{
+    let cookies = borrowed(alloc, cookies)?;
+    places_among(alloc, suffixes, &cookies, limits, now)
+}
+
+// The same for cookies in one list.
+fn places_among(
+    alloc: Global,
+    suffixes: &Suffixes,
+    cookies: &[&StoredCookie],
+    limits: Limits,
+    now: DateTime,
+) -> Result<Vec<usize>, AllocError>
+    ensures value { IfOk result (λ places. picked (targets cookies.now) places.items
+        ≡ trimmed suffixes.now limits now (targets cookies.now)) }
+    ensures in_order { IfOk result (λ places.
+        IsInOrder (length (targets cookies.now)) places.items) }
+    ensures within { IfOk result (λ places.
+        IsWithin suffixes.now limits (picked (targets cookies.now) places.items)) }
 {
     let places = lasting_places(alloc, cookies, now)?;
     let places = within(
@@ -48,26 +69,26 @@ pub(crate) fn places_within(
     Ok(places)
 }
 
-// Keeps the elements at these places only.
-pub(crate) fn keep<T: Drop>(items: &mut Vec<T>, places: &[usize])
-    requires { IsInOrder (length items.now.items) places.now }
-    ensures { (d : T) → items.new.items ≡ map (λ place. slice_index_or items.old.items place d) places.now }
+// The cookies in one list.
+fn borrowed<'a>(alloc: Global, cookies: Cookies<'a>) -> Result<Vec<&'a StoredCookie>, AllocError>
+    ensures { IfOk result (λ made. targets made.items ≡ cookies.entry) }
 {
-    for index in 0..places.len() {
-        items.swap(index, places[index]);
+    let mut made = Vec::new(alloc);
+    for cookie in cookies {
+        made.push(cookie)?;
     }
-    items.truncate(places.len());
+    Ok(made)
 }
 
 // The places of the cookies that aren't expired.
 fn lasting_places(
     alloc: Global,
-    cookies: &[StoredCookie],
+    cookies: &[&StoredCookie],
     now: DateTime,
 ) -> Result<Vec<usize>, AllocError>
     ensures value { IfOk result (λ places.
-        picked cookies.now places.items ≡ lasting now cookies.now) }
-    ensures in_order { IfOk result (λ places. IsInOrder (length cookies.now) places.items) }
+        picked (targets cookies.now) places.items ≡ lasting now (targets cookies.now)) }
+    ensures in_order { IfOk result (λ places. IsInOrder (length (targets cookies.now)) places.items) }
 {
     let mut places = Vec::new(alloc);
     for index in 0..cookies.len() {
@@ -83,18 +104,19 @@ fn lasting_places(
 fn within(
     alloc: Global,
     suffixes: &Suffixes,
-    cookies: &[StoredCookie],
+    cookies: &[&StoredCookie],
     places: Vec<usize>,
     group: Group,
     limit: usize,
 ) -> Result<Vec<usize>, AllocError>
-    requires { IsInOrder (length cookies.now) places.items }
-    ensures value { IfOk result (λ kept. picked cookies.now kept.items
-        ≡ staying (counted_by suffixes.now group) limit [] (picked cookies.now places.items)) }
-    ensures in_order { IfOk result (λ kept. IsInOrder (length cookies.now) kept.items) }
+    requires { IsInOrder (length (targets cookies.now)) places.items }
+    ensures value { IfOk result (λ kept. picked (targets cookies.now) kept.items
+        ≡ staying (counted_by suffixes.now group) limit []
+        (picked (targets cookies.now) places.items)) }
+    ensures in_order { IfOk result (λ kept. IsInOrder (length (targets cookies.now)) kept.items) }
     ensures few { IfOk result (λ kept. (cookie : KeptView)
-        → count_by (counts (counted_by suffixes.now group) cookie) (picked cookies.now kept.items)
-        ≤ limit) }
+        → count_by (counts (counted_by suffixes.now group) cookie)
+        (picked (targets cookies.now) kept.items) ≤ limit) }
 {
     if places.len() <= limit {
         return Ok(places);
@@ -109,18 +131,18 @@ fn within(
 fn ranked<'a>(
     alloc: Global,
     suffixes: &Suffixes,
-    cookies: &'a [StoredCookie],
+    cookies: &[&'a StoredCookie],
     places: &[usize],
     group: Group,
 ) -> Result<Vec<Ranked<'a>>, AllocError>
-    requires { All (λ place. place < length cookies.now) places.now }
+    requires { All (λ place. place < length (targets cookies.now)) places.now }
     ensures { IfOk result (λ made. ranks made.items
-        ≡ map (rank_at (text_of suffixes.now group) cookies.now) places.now) }
+        ≡ map (rank_at (text_of suffixes.now group) (targets cookies.now)) places.now) }
 {
     let mut made = Vec::new(alloc);
     for index in 0..places.len() {
         let place = places[index];
-        let cookie = &cookies[place];
+        let cookie = cookies[place];
         let text = group.text(suffixes, cookie);
         made.push(Ranked {
             place,

@@ -65,7 +65,7 @@ impl<'r> Session<'r> {
         push_verdict(
             self.alloc,
             &mut answer,
-            self.agent.cookies(),
+            self.agent.store(),
             text,
             &verdict,
             self.now,

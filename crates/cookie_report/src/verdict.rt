@@ -1,5 +1,5 @@
 //! What is said of a text.
-use cookie_agent::{StoredCookie, Verdict};
+use cookie_agent::{Store, Verdict};
 use cookie_browser::{Enforcement, Expiry, KeptCookie, Refusal, is_partitioned};
 use cookie_date::DateText;
 use jiff::civil::DateTime;
@@ -9,7 +9,7 @@ use std::alloc::{AllocError, Global};
 pub fn push_verdict(
     alloc: Global,
     line: &mut Vec<u8>,
-    stored: &[StoredCookie],
+    stored: &Store,
     text: &[u8],
     verdict: &Verdict,
     now: DateTime,
@@ -50,10 +50,10 @@ pub fn push_cookie(line: &mut Vec<u8>, kept: &KeptCookie<'_>) -> Result<(), Allo
 }
 
 // What comes of an expired cookie: it removes the stored one with its name, host and path.
-fn removal_head(stored: &[StoredCookie], kept: &KeptCookie<'_>, now: DateTime) -> &'static [u8] {
-    let is_there = stored.iter().any(|other| other.expiry().lasts(now)
+fn removal_head(stored: &Store, kept: &KeptCookie<'_>, now: DateTime) -> &'static [u8] {
+    let is_there = stored.cookies().any(|other| other.expiry().lasts(now)
         && other.as_kept().is_same(kept));
-    let is_named = stored.iter().any(|other| other.expiry().lasts(now)
+    let is_named = stored.cookies().any(|other| other.expiry().lasts(now)
         && other.as_kept().name == kept.name);
     if is_there {
         b"removed: "

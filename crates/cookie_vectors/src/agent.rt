@@ -169,7 +169,7 @@ impl<'r> Agents<'r> {
     // Why the request doesn't send the cookie at this index: the obstacles' names, or `-`.
     fn obstacles(&self, step: Step<'_>) -> Answer {
         let index: usize = step.words.parse().ok()?;
-        let Some(cookie) = self.agent.cookies().get(index) else {
+        let Some(cookie) = self.agent.store().cookie_at(index) else {
             return step.said("no cookie");
         };
         let mut names = String::new(step.alloc);

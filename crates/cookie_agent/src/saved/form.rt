@@ -10,6 +10,7 @@ ghost use Rattle.cookie_agent.specs.SavedFormsCode as code;
 ghost use Rattle.cookie_agent.specs.Storable.{is_storable_by};
 ghost use Rattle.cookie_agent.specs.declared.saved.form.SavedForm.TheVariants as form;
 
+use crate::cookies::Cookies;
 use crate::saved::line::Line;
 use crate::saved::loaded::LoadedCookies;
 use crate::saved::{
@@ -56,20 +57,22 @@ impl SavedForm {
     pub fn write(
         self,
         alloc: Global,
-        cookies: &[StoredCookie],
+        mut cookies: Cookies<'_>,
         now: DateTime,
     ) -> Result<SavedCookies, AllocError>
         ensures text { IfOk result (λ saved.
-            saved.text.items ≡ spec.saved_text self now cookies.now) }
+            saved.text.items ≡ spec.saved_text self now cookies.entry) }
         ensures left_out { IfOk result (λ saved.
-            saved.left_out.items ≡ left_out now (spec.carries self) cookies.now) }
+            saved.left_out.items ≡ left_out now (spec.carries self) cookies.entry) }
     {
         let mut saved = SavedCookies {
             text: Vec::from_slice(alloc, self.head())?,
             left_out: Vec::new(alloc),
         };
         for place in 0..cookies.len() {
-            self.save(&mut saved, alloc, &cookies[place], place, now)?;
+            if let Some(cookie) = cookies.next() {
+                self.save(&mut saved, alloc, cookie, place, now)?;
+            }
         }
         Ok(saved)
     }

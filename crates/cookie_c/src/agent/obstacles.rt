@@ -45,7 +45,10 @@ pub extern "C" fn cookie_agent_obstacles(
     ensures told { TellsObstaclesAt index request.now now (store_of agent.old) result }
 {
     with_content!(alloc, agent.handle,
-        Store(store) => tell(alloc, store, index, request, now),
+        Store(store) => {
+            store.pack();
+            tell(alloc, store, index, request, now)
+        },
         _ => Obstacles::none(Status::NoAgent),
     )
 }
@@ -65,7 +68,7 @@ fn tell(alloc: Global, store: &Store, index: usize, request: &Request<'_>, now: 
 fn tell_found(store: &Store, index: usize, site: &Site, now: DateTime) -> Obstacles
     ensures { TellsObstacles site.now now (slice_get store.now index) result }
 {
-    match store.cookies().get(index) {
+    match store.cookie_at(index) {
         Some(cookie) => Obstacles {
             status: Status::Done.code(),
             obstacles: obstacles_number(cookie, site, now),

@@ -22,7 +22,7 @@ pub extern "C" fn cookie_agent_count(alloc: Global, agent: &mut Agent) -> Answer
     ensures told { TellsCount (store_of agent.old) result }
 {
     with_content!(alloc, agent.handle,
-        Store(store) => Answer::of(Status::Done, store.cookies().len()),
+        Store(store) => Answer::of(Status::Done, store.len()),
         _ => Answer::refusal(Status::NoAgent),
     )
 }
@@ -46,7 +46,10 @@ pub extern "C" fn cookie_agent_cookie(
     ensures told { TellsAt index now (store_of agent.old) result out.old out.new }
 {
     with_content!(alloc, agent.handle,
-        Store(store) => tell(alloc, store, index, now, out),
+        Store(store) => {
+            store.pack();
+            tell(alloc, store, index, now, out)
+        },
         _ => Explanation::none(Status::NoAgent),
     )
 }
@@ -69,7 +72,7 @@ fn tell_found(
 ) -> Explanation
     ensures { TellsFound now (slice_get store.now index) result out.old out.new }
 {
-    match store.cookies().get(index) {
+    match store.cookie_at(index) {
         Some(cookie) => tell_cookie(alloc, cookie, now, out),
         None => Explanation::none(Status::NotFound),
     }

@@ -1,6 +1,11 @@
 -- The copies so far are the cookies so far.
-use Rattle.std.proofs.Common.{◌≡◌, take}
+use Rattle.std.proofs.Common.{◌≡◌}
+use Rattle.cookie_agent.specs.SentCode.{targets}
 use Rattle.cookie_agent.proofs.store.copies.Given as goal
 
 abbrev pub invariant-loop-cookie : goal.invariant-loop-cookie
-invariant-loop-cookie l = l.made.items ≡ take l.cookie-index l.cookies
+invariant-loop-cookie l = record {
+  can_next : (goal.iterator-loop-cookie).can_next l.cookie-iterator;
+  is_finite : (goal.iterator-loop-cookie).is_finite l.cookie-iterator;
+  items : l.made.items ≡ targets l.yielded;
+}

@@ -1,16 +1,25 @@
--- No domain, no site and not the whole has more than its limit.
+-- The list has the cookies.
+use Rattle.std.proofs.Common.{◌≡◌, length, ap, subst, ◌∙◌}
+use Rattle.std.proofs.lemmas.Result.{IfOk-weaker}
 use Rattle.cookie_browser.specs.Storage.{CookieStore}
-use Rattle.cookie_agent.specs.LimitsCode.{picked}
-use Rattle.cookie_agent.proofs.TrimLemmas.{is_within}
+use Rattle.cookie_agent.specs.Limits.{IsWithin, trimmed}
+use Rattle.cookie_agent.specs.LimitsCode.{IsInOrder, picked}
+use Rattle.cookie_agent.specs.SentCode.{targets}
 use Rattle.cookie_agent.proofs.trim.places_within.Goals as goal
+
+pub returns-clause-value : goal.returns-clause-value
+returns-clause-value c =
+    let is : targets c.deref.result.now ≡ c.args.cookies = ap targets c.deref.ensures.value ∙ c.in_ok-cookies.ensures in
+    IfOk-weaker c.places_among.result _ _ (λ places h.
+    subst (λ (s : CookieStore). picked s places.items ≡ trimmed c.args.suffixes.now c.args.limits c.args.now s) is h) c.places_among.ensures.value
+
+pub returns-clause-in_order : goal.returns-clause-in_order
+returns-clause-in_order c =
+    let is : targets c.deref.result.now ≡ c.args.cookies = ap targets c.deref.ensures.value ∙ c.in_ok-cookies.ensures in
+    IfOk-weaker c.places_among.result _ _ (λ places h. subst (λ (s : CookieStore). IsInOrder (length s) places.items) is h) c.places_among.ensures.in_order
 
 pub returns-clause-within : goal.returns-clause-within
 returns-clause-within c =
-    let store : CookieStore = c.args.cookies.now in
-    let rules = c.args.suffixes.now in
-    is_within rules c.args.limits (picked store c.in_ok-places-2.places.items) (picked store c.in_ok-places-3.places.items) (picked store c.in_ok-places-4.places.items)
-    c.in_ok-places-2.ensures.few
-    c.in_ok-places-3.ensures.value
-    c.in_ok-places-3.ensures.few
-    c.in_ok-places-4.ensures.value
-    c.in_ok-places-4.ensures.few
+    let is : targets c.deref.result.now ≡ c.args.cookies = ap targets c.deref.ensures.value ∙ c.in_ok-cookies.ensures in
+    IfOk-weaker c.places_among.result _ _ (λ places h.
+    subst (λ (s : CookieStore). IsWithin c.args.suffixes.now c.args.limits (picked s places.items)) is h) c.places_among.ensures.within

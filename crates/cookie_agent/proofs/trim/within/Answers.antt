@@ -3,50 +3,51 @@ use Rattle.std.proofs.Common.{List, map, ap, subst, sym, ◌∙◌, arith}
 use Rattle.std.proofs.lemmas.List.Sorted.{IsNonDecreasingBy-from_sort}
 use Rattle.std.specs.List.Sorted.{IsPermutation}
 use Rattle.cookie_agent.specs.LimitsCode.{Rank, Rises, comes_before, rank_at, ranks, text_of}
+use Rattle.cookie_agent.specs.SentCode.{targets}
 use Rattle.cookie_agent.proofs.TrimLemmas.{all-few, all-stay, found-few, found-in_order, found-value, once}
 use Rattle.cookie_agent.proofs.trim.within.Goals as goal
 
 pub staying_places-requires-clause-once : goal.staying_places-requires-clause-once
 staying_places-requires-clause-once c =
     let items : List Rank = ranks c.deref-2.result.now in
-    let moved : IsPermutation (map (rank_at (text_of c.args.suffixes.now c.args.group) c.args.cookies.now) c.args.places.items) items
-    = subst (λ l. IsPermutation l items) (c.in_ok-ranked.ensures ∙ ap (map (rank_at (text_of c.args.suffixes.now c.args.group) c.args.cookies.now)) c.deref.ensures.value) (subst (λ l. IsPermutation (ranks c.in_ok-ranked.field-0.items) (ranks l)) (sym c.deref-2.ensures.value) c.sorted-ranked.ensures.moved) in
-    once c.args.suffixes.now c.args.group c.args.limit c.args.cookies.now c.args.places.items c.requires items moved
+    let moved : IsPermutation (map (rank_at (text_of c.args.suffixes.now c.args.group) (targets c.args.cookies.now)) c.args.places.items) items
+    = subst (λ l. IsPermutation l items) (c.in_ok-ranked.ensures ∙ ap (map (rank_at (text_of c.args.suffixes.now c.args.group) (targets c.args.cookies.now))) c.deref.ensures.value) (subst (λ l. IsPermutation (ranks c.in_ok-ranked.field-0.items) (ranks l)) (sym c.deref-2.ensures.value) c.sorted-ranked.ensures.moved) in
+    once c.args.suffixes.now c.args.group c.args.limit (targets c.args.cookies.now) c.args.places.items c.requires items moved
 
 pub returns-clause-value : goal.returns-clause-value
 returns-clause-value c =
     let items : List Rank = ranks c.deref-2.result.now in
-    let moved : IsPermutation (map (rank_at (text_of c.args.suffixes.now c.args.group) c.args.cookies.now) c.args.places.items) items
-    = subst (λ l. IsPermutation l items) (c.in_ok-ranked.ensures ∙ ap (map (rank_at (text_of c.args.suffixes.now c.args.group) c.args.cookies.now)) c.deref.ensures.value) (subst (λ l. IsPermutation (ranks c.in_ok-ranked.field-0.items) (ranks l)) (sym c.deref-2.ensures.value) c.sorted-ranked.ensures.moved) in
+    let moved : IsPermutation (map (rank_at (text_of c.args.suffixes.now c.args.group) (targets c.args.cookies.now)) c.args.places.items) items
+    = subst (λ l. IsPermutation l items) (c.in_ok-ranked.ensures ∙ ap (map (rank_at (text_of c.args.suffixes.now c.args.group) (targets c.args.cookies.now))) c.deref.ensures.value) (subst (λ l. IsPermutation (ranks c.in_ok-ranked.field-0.items) (ranks l)) (sym c.deref-2.ensures.value) c.sorted-ranked.ensures.moved) in
     let rises : Rises (comes_before c.args.group) items = subst (λ l. Rises (comes_before c.args.group) (ranks l)) (sym c.deref-2.ensures.value) c.sorted-ranked.ensures.rises in
-    found-value c.args.suffixes.now c.args.group c.args.limit c.args.cookies.now c.args.places.items c.requires items moved rises
+    found-value c.args.suffixes.now c.args.group c.args.limit (targets c.args.cookies.now) c.args.places.items c.requires items moved rises
     c.in_ok-kept.kept.items c.sort_unstable.new.self.items c.in_ok-kept.ensures c.sort_unstable.ensures.permutation
     (IsNonDecreasingBy-from_sort (λ x. x) c.sort_unstable.new.self.items c.sort_unstable.ensures.sorted)
 
 pub returns-clause-in_order : goal.returns-clause-in_order
 returns-clause-in_order c =
     let items : List Rank = ranks c.deref-2.result.now in
-    let moved : IsPermutation (map (rank_at (text_of c.args.suffixes.now c.args.group) c.args.cookies.now) c.args.places.items) items
-    = subst (λ l. IsPermutation l items) (c.in_ok-ranked.ensures ∙ ap (map (rank_at (text_of c.args.suffixes.now c.args.group) c.args.cookies.now)) c.deref.ensures.value) (subst (λ l. IsPermutation (ranks c.in_ok-ranked.field-0.items) (ranks l)) (sym c.deref-2.ensures.value) c.sorted-ranked.ensures.moved) in
+    let moved : IsPermutation (map (rank_at (text_of c.args.suffixes.now c.args.group) (targets c.args.cookies.now)) c.args.places.items) items
+    = subst (λ l. IsPermutation l items) (c.in_ok-ranked.ensures ∙ ap (map (rank_at (text_of c.args.suffixes.now c.args.group) (targets c.args.cookies.now))) c.deref.ensures.value) (subst (λ l. IsPermutation (ranks c.in_ok-ranked.field-0.items) (ranks l)) (sym c.deref-2.ensures.value) c.sorted-ranked.ensures.moved) in
     let rises : Rises (comes_before c.args.group) items = subst (λ l. Rises (comes_before c.args.group) (ranks l)) (sym c.deref-2.ensures.value) c.sorted-ranked.ensures.rises in
-    found-in_order c.args.suffixes.now c.args.group c.args.limit c.args.cookies.now c.args.places.items c.requires items moved rises
+    found-in_order c.args.suffixes.now c.args.group c.args.limit (targets c.args.cookies.now) c.args.places.items c.requires items moved rises
     c.in_ok-kept.kept.items c.sort_unstable.new.self.items c.in_ok-kept.ensures c.sort_unstable.ensures.permutation
     (IsNonDecreasingBy-from_sort (λ x. x) c.sort_unstable.new.self.items c.sort_unstable.ensures.sorted)
 
 pub returns-clause-few : goal.returns-clause-few
 returns-clause-few c =
     let items : List Rank = ranks c.deref-2.result.now in
-    let moved : IsPermutation (map (rank_at (text_of c.args.suffixes.now c.args.group) c.args.cookies.now) c.args.places.items) items
-    = subst (λ l. IsPermutation l items) (c.in_ok-ranked.ensures ∙ ap (map (rank_at (text_of c.args.suffixes.now c.args.group) c.args.cookies.now)) c.deref.ensures.value) (subst (λ l. IsPermutation (ranks c.in_ok-ranked.field-0.items) (ranks l)) (sym c.deref-2.ensures.value) c.sorted-ranked.ensures.moved) in
+    let moved : IsPermutation (map (rank_at (text_of c.args.suffixes.now c.args.group) (targets c.args.cookies.now)) c.args.places.items) items
+    = subst (λ l. IsPermutation l items) (c.in_ok-ranked.ensures ∙ ap (map (rank_at (text_of c.args.suffixes.now c.args.group) (targets c.args.cookies.now))) c.deref.ensures.value) (subst (λ l. IsPermutation (ranks c.in_ok-ranked.field-0.items) (ranks l)) (sym c.deref-2.ensures.value) c.sorted-ranked.ensures.moved) in
     let rises : Rises (comes_before c.args.group) items = subst (λ l. Rises (comes_before c.args.group) (ranks l)) (sym c.deref-2.ensures.value) c.sorted-ranked.ensures.rises in
-    found-few c.args.suffixes.now c.args.group c.args.limit c.args.cookies.now c.args.places.items c.requires items moved rises
+    found-few c.args.suffixes.now c.args.group c.args.limit (targets c.args.cookies.now) c.args.places.items c.requires items moved rises
     c.in_ok-kept.kept.items c.sort_unstable.new.self.items c.in_ok-kept.ensures c.sort_unstable.ensures.permutation
     (IsNonDecreasingBy-from_sort (λ x. x) c.sort_unstable.new.self.items c.sort_unstable.ensures.sorted)
 
 pub returns-then-len-limit-clause-value : goal.returns-then-len-limit-clause-value
 returns-then-len-limit-clause-value c =
-    all-stay c.args.suffixes.now c.args.group c.args.limit c.args.cookies.now c.args.places.items (omega (arith, c.if-len-limit.true, c.len.ensures))
+    all-stay c.args.suffixes.now c.args.group c.args.limit (targets c.args.cookies.now) c.args.places.items (omega (arith, c.if-len-limit.true, c.len.ensures))
 
 pub returns-then-len-limit-clause-few : goal.returns-then-len-limit-clause-few
 returns-then-len-limit-clause-few c cookie =
-    all-few c.args.suffixes.now c.args.group c.args.limit c.args.cookies.now c.args.places.items (omega (arith, c.if-len-limit.true, c.len.ensures)) cookie
+    all-few c.args.suffixes.now c.args.group c.args.limit (targets c.args.cookies.now) c.args.places.items (omega (arith, c.if-len-limit.true, c.len.ensures)) cookie

@@ -14,9 +14,9 @@ pub returns-in-Some : goal.returns-in-Some
 returns-in-Some c =
     let now = c.args.now in
     let store : CookieStore = lasting now c.args.self.now.cookies in
-    let overlaid : c.overlays-overlays.result ≡ overlays (request_view c.request-request.result) store (kept_view c.of-new.result)
-    = c.overlays-overlays.ensures ∙ ap (λ s. overlays (request_view c.request-request.result) (lasting now s) (kept_view c.of-new.result))
-    (c.cookies.ensures.value ∙ ap (λ (a : AgentView). a.cookies) c.self.view_is) in
+    let overlaid : c.in_ok-overlays.overlays ≡ overlays (request_view c.request-request.result) store (kept_view c.of-new.result)
+    = c.in_ok-overlays.ensures ∙ ap (λ s. overlays (request_view c.request-request.result) (lasting now s) (kept_view c.of-new.result))
+    (ap (λ (a : AgentView). a.cookies) c.self.view_is) in
     verdict_by c.args.self.now.rules c.self.inside.suffixes.now c.args.site.now (request_view c.request-request.result) now
     store (received_view c.args.received.now) (kept_view c.of-new.result) (Some c.in-Some.refusal)
     (ap (λ (a : AgentView). a.rules) c.self.view_is)
@@ -31,9 +31,9 @@ returns c =
     let by_rules : rules ≡ c.args.self.now.rules = ap (λ (a : AgentView). a.rules) c.self.view_is in
     let read : ReceivedView = received_view c.args.received.now in
     let store : CookieStore = lasting now c.args.self.now.cookies in
-    let overlaid : c.overlays-overlays.result ≡ overlays (request_view c.request-request.result) store (kept_view c.of-new.result)
-    = c.overlays-overlays.ensures ∙ ap (λ s. overlays (request_view c.request-request.result) (lasting now s) (kept_view c.of-new.result))
-    (c.cookies.ensures.value ∙ ap (λ (a : AgentView). a.cookies) c.self.view_is) in
+    let overlaid : c.in_ok-overlays.overlays ≡ overlays (request_view c.request-request.result) store (kept_view c.of-new.result)
+    = c.in_ok-overlays.ensures ∙ ap (λ s. overlays (request_view c.request-request.result) (lasting now s) (kept_view c.of-new.result))
+    (ap (λ (a : AgentView). a.cookies) c.self.view_is) in
     let made : c.in_ok-of.field-0 ≡ kept_as c.args.self.now.rules c.args.site.now now read =
     c.in_ok-of.ensures
     ∙ ap (λ e. record (kept_view c.of-new.result) { expiry = e; last_access = civil_nanos now }) c.of-expiry.ensures

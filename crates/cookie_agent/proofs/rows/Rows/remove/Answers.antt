@@ -1,20 +1,20 @@
--- The numbers of the others stay.
-use Rattle.std.proofs.Common.{All, ◌<◌, sym, subst, arith}
-use Rattle.cookie_browser.specs.Storage.{CookieStore}
-use Rattle.std.specs.List.{remove}
-use Rattle.cookie_agent.specs.RowsCode.{AreListed}
-use Rattle.cookie_agent.proofs.RowLemmas.{All-remove, listed-remove, rows-long}
+-- The other cookies stay in their slots.
+use Rattle.std.proofs.Common.{None, ⊎_elim, arith}
+use Rattle.std.proofs.lemmas.List.{length-set}
+use Rattle.cookie_agent.specs.RowsCode.{Slots, slot_at}
+use Rattle.cookie_agent.proofs.SlotLemmas.{at-place, full_some, listed-out}
+use Rattle.cookie_agent.proofs.TimedLemmas.{timed-out}
 use Rattle.cookie_agent.proofs.rows.Rows.remove.Goals as goal
-
-pub remove-requires-2 : goal.remove-requires-2
-remove-requires-2 c = let long = rows-long c.args.self.now c.requires.rows in omega (arith, long, c.requires.below)
 
 pub returns-clause-rows : goal.returns-clause-rows
 returns-clause-rows c =
-    let rows = c.args.self.now in
-    let cookies : CookieStore = rows.cookies.items in
+    let slots : Slots = c.args.self.now.slots.items in
+    let full = full_some (slot_at slots c.args.place) c.requires.full in
+    let fewer = (at-place slots c.args.place full.0 full.1).fewer in
+    let long = length-set slots c.args.place None in
+    let counted = c.requires.rows.counted in
     record {
-      listed = subst (λ (cs : CookieStore). AreListed rows.index 0 c.remove-2.new.self.items cs) (sym c.remove.ensures.items)
-          (subst (λ ns. AreListed rows.index 0 ns (remove cookies c.args.place)) (sym c.remove-2.ensures.items) (listed-remove rows.index 0 rows.numbers.items cookies c.args.place c.requires.rows.listed));
-      below = subst (λ ns. All (λ n. n < rows.next) ns) (sym c.remove-2.ensures.items) (All-remove (λ n. n < rows.next) rows.numbers.items c.args.place c.requires.rows.below);
+      timed = timed-out c.args.self.now.expiries c.remove.new.self slots c.requires.rows.timed c.args.place (λ n o other at. ⊎_elim (λ stay. stay) (λ it. absurd (other it.0)) (c.remove.ensures n o at));
+      listed = listed-out c.args.self.now.index slots c.args.place c.requires.rows.listed;
+      counted = omega (arith, fewer, long, counted);
     }

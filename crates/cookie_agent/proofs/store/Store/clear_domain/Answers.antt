@@ -1,9 +1,8 @@
 -- What is left is what isn't of the domain, and is apart.
-use Rattle.std.proofs.Common.{All, Bool, not, sym, subst}
-use Rattle.std.proofs.lemmas.List.Elements.{All-filter}
-use Rattle.cookie_browser.specs.Storage.{CookieStore, KeptView}
+use Rattle.std.proofs.Common.{Bool, not, sym, subst}
+use Rattle.cookie_browser.specs.Storage.{KeptView}
 use Rattle.cookie_agent.specs.Stored.{IsApart, is_of_domain}
-use Rattle.cookie_agent.specs.StoredCode.{IsFreshUntil}
+use Rattle.cookie_agent.specs.RowsCode.{held}
 use Rattle.cookie_agent.proofs.PutLemmas.{apart-filter}
 use Rattle.cookie_agent.proofs.store.Store.clear_domain.Goals as goal
 
@@ -12,7 +11,6 @@ invariant_of-self c =
     let inside = c.self.inside in
     let test : KeptView → Bool = λ d. not (is_of_domain c.args.domain.now d) in
     record {
-      apart = subst IsApart (sym c.sweep.ensures.cookies) (apart-filter test inside.rows.cookies.items c.self.invariant.apart);
-      rows = c.sweep.ensures.rows;
-      fresh = subst (λ (s : CookieStore). All (IsFreshUntil inside.fresh_until) s) (sym c.sweep.ensures.cookies) (All-filter test (IsFreshUntil inside.fresh_until) inside.rows.cookies.items c.self.invariant.fresh);
+      apart = subst IsApart (sym c.clear_domain.ensures.cookies) (apart-filter test (held inside.rows.slots.items) c.self.invariant.apart);
+      rows = c.clear_domain.ensures.rows;
     }

@@ -9,6 +9,6 @@ pub returns-clause-ok : goal.returns-clause-ok
 returns-clause-ok c =
     let old : CookieStore = c.args.self.now in
     let fresh : CookieStore = lasting c.args.now c.args.cookies.items in
-    c.in_ok-self-inside.ensures.cookies ∙ c.in_ok-all-2.ensures.value
+    c.drop.view_is ∙ c.in_ok-self-inside.ensures ∙ c.in_ok-all-2.ensures.value
     ∙ ap (λ all. kept_with_each all []) (c.in_ok-push_lasting.ensures ∙ ap (λ had. had ++ fresh) (c.in_ok-all.ensures ∙ c.cookies.ensures.value))
     ∙ kept_with_each-after old fresh c.cookies.ensures.apart

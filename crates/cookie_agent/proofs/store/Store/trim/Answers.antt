@@ -2,11 +2,10 @@
 use Rattle.std.proofs.Common.{◌≡◌, ◌<◌, All, filter, length, sym, ap, subst, ◌∙◌}
 use Rattle.cookie_browser.specs.Storage.{CookieStore}
 use Rattle.cookie_agent.specs.Limits.{is_of_site, trimmed}
-use Rattle.cookie_agent.specs.LimitsCode.{blank, picked}
+use Rattle.cookie_agent.specs.LimitsCode.{picked}
 use Rattle.cookie_agent.specs.Stored.{IsApart}
-use Rattle.cookie_agent.specs.StoredCode.{IsFreshUntil}
+use Rattle.cookie_agent.specs.RowsCode.{held}
 use Rattle.cookie_agent.proofs.ApartLemmas.{apart-trimmed, trimmed-all, trimmed-part}
-use Rattle.cookie_agent.proofs.RowLemmas.{All-picked}
 use Rattle.cookie_agent.proofs.store.Store.trim.Goals as goal
 
 pub invariant_of-self : goal.invariant_of-self
@@ -15,10 +14,10 @@ invariant_of-self c =
     let limits = c.args.limits in
     let now = c.args.now in
     let old : CookieStore = c.args.self.now in
-    let inside : CookieStore = c.self.inside.rows.cookies.items in
+    let inside : CookieStore = (held c.self.inside.rows.slots.items) in
     let places = c.in_ok-places.places.items in
-    let here : c.keep.new.self.cookies.items ≡ picked inside places = c.keep.ensures.cookies ∙ ap (picked inside) c.deref.ensures.value in
-    let left : c.keep.new.self.cookies.items ≡ trimmed list limits now old
+    let here : (held c.keep.new.self.slots.items) ≡ picked inside places = c.keep.ensures.cookies ∙ ap (picked inside) c.deref.ensures.value in
+    let left : (held c.keep.new.self.slots.items) ≡ trimmed list limits now old
     = here ∙ ap (λ (s : CookieStore). picked s places) (c.self.view_is ∙ sym c.cookies.ensures.value)
     ∙ c.in_ok-places.ensures.value ∙ ap (λ (s : CookieStore). trimmed list limits now s) c.cookies.ensures.value in
     let below : All (λ p. p < length inside) places
@@ -26,8 +25,6 @@ invariant_of-self c =
     record {
       apart = subst IsApart (sym left) (apart-trimmed list limits now old c.cookies.ensures.apart);
       rows = c.keep.ensures.rows;
-      fresh = subst (λ (s : CookieStore). All (IsFreshUntil c.self.inside.fresh_until) s) (sym here)
-          (All-picked (IsFreshUntil c.self.inside.fresh_until) inside blank places c.self.invariant.fresh below);
     }
 
 pub returns-clause-needed : goal.returns-clause-needed
@@ -36,10 +33,10 @@ returns-clause-needed c within =
     let limits = c.args.limits in
     let now = c.args.now in
     let old : CookieStore = c.args.self.now in
-    let inside : CookieStore = c.self.inside.rows.cookies.items in
+    let inside : CookieStore = (held c.self.inside.rows.slots.items) in
     let places = c.in_ok-places.places.items in
-    let here : c.keep.new.self.cookies.items ≡ picked inside places = c.keep.ensures.cookies ∙ ap (picked inside) c.deref.ensures.value in
-    let left : c.keep.new.self.cookies.items ≡ trimmed list limits now old
+    let here : (held c.keep.new.self.slots.items) ≡ picked inside places = c.keep.ensures.cookies ∙ ap (picked inside) c.deref.ensures.value in
+    let left : (held c.keep.new.self.slots.items) ≡ trimmed list limits now old
     = here ∙ ap (λ (s : CookieStore). picked s places) (c.self.view_is ∙ sym c.cookies.ensures.value)
     ∙ c.in_ok-places.ensures.value ∙ ap (λ (s : CookieStore). trimmed list limits now s) c.cookies.ensures.value in
     left ∙ trimmed-all list limits now old within
@@ -50,10 +47,10 @@ returns-clause-apart c room domain =
     let limits = c.args.limits in
     let now = c.args.now in
     let old : CookieStore = c.args.self.now in
-    let inside : CookieStore = c.self.inside.rows.cookies.items in
+    let inside : CookieStore = (held c.self.inside.rows.slots.items) in
     let places = c.in_ok-places.places.items in
-    let here : c.keep.new.self.cookies.items ≡ picked inside places = c.keep.ensures.cookies ∙ ap (picked inside) c.deref.ensures.value in
-    let left : c.keep.new.self.cookies.items ≡ trimmed list limits now old
+    let here : (held c.keep.new.self.slots.items) ≡ picked inside places = c.keep.ensures.cookies ∙ ap (picked inside) c.deref.ensures.value in
+    let left : (held c.keep.new.self.slots.items) ≡ trimmed list limits now old
     = here ∙ ap (λ (s : CookieStore). picked s places) (c.self.view_is ∙ sym c.cookies.ensures.value)
     ∙ c.in_ok-places.ensures.value ∙ ap (λ (s : CookieStore). trimmed list limits now s) c.cookies.ensures.value in
     ap (filter (is_of_site list domain)) left ∙ trimmed-part list domain limits now old room
