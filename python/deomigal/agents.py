@@ -4,6 +4,7 @@ The drop-ins for clients are `deomigal.requests`, `deomigal.httpx`, `deomigal.ai
 """
 from __future__ import annotations
 
+import contextlib
 import ctypes
 import datetime
 import errno
@@ -14,11 +15,8 @@ import tempfile
 import time
 from typing import Any, Callable, Iterable, Iterator, NamedTuple
 
-from ._library import (
-    AGENT_CLEAR, AGENT_COOKIE, AGENT_COUNT, AGENT_FREE, AGENT_LOAD, AGENT_NEW, AGENT_OBSTACLES, AGENT_READ,
-    AGENT_REMOVE, AGENT_RETRIEVE, AGENT_SAVE, AGENT_TRIM, SIZE, OwnHandle, Uncopied, answer_and_bytes, bytes_from,
-    bytes_of, checked, perform,
-)
+from . import _library as library
+from ._library import SIZE, OwnHandle, Text, Uncopied, answer_and_bytes, bytes_of, checked, perform
 from ._locks import Lock
 from .addresses import Address, address_at, address_of
 from .dates import whole_second
@@ -85,7 +83,7 @@ class AgentCookie(NamedTuple):
         return self.name, self.domain, self.is_host_only, self.path
 
 
-class Agent(Uncopied):
+class Agent(Uncopied, contextlib.AbstractContextManager["Agent"]):
     """A user agent: it reads `Set-Cookie` headers, stores the cookies, and says which of them a request sends, as RFC
     6265bis has it. `with Agent() as agent` frees it at last. Threads may share it.
 
@@ -104,7 +102,7 @@ class Agent(Uncopied):
     """
 
     def __init__(
-        self, suffixes: str | bytes | None = None, *, is_localhost_secure: bool = True, per_domain: int = 50,
+        self, suffixes: Text | None = None, *, is_localhost_secure: bool = True, per_domain: int = 50,
         per_site: int | None = None, total: int = 3000, clock: Callable[[], float] = time.time,
     ) -> None:
         self.title, found = suffix_list() if suffixes is None else ("the caller's", suffixes)
@@ -117,14 +115,12 @@ class Agent(Uncopied):
         self.is_localhost_secure, self.limits, self.clock = is_localhost_secure, (per_domain, per_site, total), clock
         # How many cookies were stored since the limits were looked at, and at how many it looks again.
         self.stored, self.enough = 0, min(self.limits)
-        # Only one call at a time may use the handle.
-        self.lock, self.handle, (self.rules, self.rules_lock) = Lock(), OwnHandle(AGENT_FREE), rules_of(self.suffixes)
+        self.handle: OwnHandle = library.Agent()
+        self.handle.lock = self.lock = Lock()
+        self.rules = rules_of(self.suffixes)
         # Where headers are written to.
         self.room: Any = ctypes.create_string_buffer(HEADER_ROOM)
-        perform(AGENT_NEW, self.handle)
-
-    def __enter__(self) -> Agent:
-        return self
+        perform(library.AGENT_NEW, self.handle)
 
     def __exit__(self, *_: object) -> None:
         self.close()
@@ -139,7 +135,7 @@ class Agent(Uncopied):
         return Agent(self.suffixes, is_localhost_secure=self.is_localhost_secure, **words)
 
     def read(
-        self, url: str, text: str | bytes, now: datetime.datetime | None = None, context: Context = SAME_SITE
+        self, url: str, text: Text, now: datetime.datetime | None = None, context: Context = SAME_SITE
     ) -> Refusal | None:
         """Reads the value of a `Set-Cookie` header of the response from the URL, at the time `now` or the clock's.
         Returns None if the cookie is stored, or why it is refused. What is expired drops a cookie.
@@ -156,8 +152,8 @@ class Agent(Uncopied):
         """Reads the value of a `Set-Cookie` header of a response from the address, as `read` does."""
         second = self.second(None) if second is None else whole_second(second)
         request = request_of(address)
-        with self.lock, self.rules_lock:
-            found = checked(AGENT_READ(self.handle, self.rules, request, text, len(text), second)).refusal
+        with self.lock, self.rules.lock:
+            found = checked(library.AGENT_READ(self.handle, self.rules, request, text, len(text), second)).refusal
             self.stored += not found
             if self.stored >= self.enough:
                 self.trim(second)
@@ -172,8 +168,8 @@ class Agent(Uncopied):
 
     def trim(self, second: int) -> None:
         """Drops what is expired, and the cookies above the limits (RFC 6265bis, Storage Model)."""
-        perform(AGENT_TRIM, self.handle, self.rules, *self.limits, second)
-        self.stored, self.enough = 0, max(min(self.limits), AGENT_COUNT(self.handle).length // 4)
+        perform(library.AGENT_TRIM, self.handle, self.rules, *self.limits, second)
+        self.stored, self.enough = 0, max(min(self.limits), library.AGENT_COUNT(self.handle).length // 4)
 
     def header(self, url: str, now: datetime.datetime | None = None, context: Context = SAME_SITE) -> bytes:
         """The value of the `Cookie` header that a request to the URL sends, at the time `now` or the clock's. It is
@@ -191,17 +187,16 @@ class Agent(Uncopied):
 
     def header_at(
         self, address: Address, is_safe: bool = True, second: int | None = None,
-        call: Callable[..., Any] = AGENT_RETRIEVE,
+        call: Callable[..., Any] = library.AGENT_RETRIEVE,
     ) -> bytes:
         """The value of the `Cookie` header of a request to the address. The drop-ins call it."""
         second = self.second(None) if second is None else whole_second(second)
-        with self.lock:
-            return bytes_from(call, self.handle, request_of(address, is_safe), second, buffer=self.room)
+        return self.handle.text(call, request_of(address, is_safe), second, buffer=self.room)
 
     def cookies(self, second: int) -> Iterator[AgentCookie]:
         """The stored cookies. Some may be expired at that second: such a one has it as its expiry."""
         for index in itertools.count():
-            found, texts = answer_and_bytes(AGENT_COOKIE, self.handle, index, second, room=ROOM)
+            found, texts = answer_and_bytes(library.AGENT_COOKIE, self.handle, index, second, room=ROOM)
             if found.status == NotFound.status:
                 return
             stored = checked(found).stored
@@ -222,7 +217,7 @@ class Agent(Uncopied):
         found = []
         with self.lock:
             for index, cookie in enumerate(self.cookies(second)):
-                bits = checked(AGENT_OBSTACLES(self.handle, index, request, second)).obstacles
+                bits = checked(library.AGENT_OBSTACLES(self.handle, index, request, second)).obstacles
                 if bits:
                     found.append((cookie, [why for bit, why in OBSTACLES.items() if bits & bit]))
         return found
@@ -253,8 +248,7 @@ class Agent(Uncopied):
         """
         name, domain, path = map(header_bytes, (cookie.name, cookie.domain, cookie.path))
         try:
-            with self.lock:
-                perform(AGENT_REMOVE, self.handle, name, domain, cookie.is_host_only, path)
+            self.handle.perform(library.AGENT_REMOVE, name, domain, cookie.is_host_only, path)
         except NotFound:
             return False
         return True
@@ -267,9 +261,8 @@ class Agent(Uncopied):
         >>> agent.clear("shop.example"), len(agent)
         (None, 0)
         """
-        call, words = (AGENT_NEW, ()) if domain is None else (AGENT_CLEAR, (header_bytes(domain),))
-        with self.lock:
-            perform(call, self.handle, *words)
+        call, words = (library.AGENT_NEW, ()) if domain is None else (library.AGENT_CLEAR, (header_bytes(domain),))
+        self.handle.perform(call, *words)
 
     def save(self, path: str | os.PathLike[str], form: str = JSON) -> int:
         """Writes the cookies that have an expiry and aren't expired to a file that only its owner may read. If that
@@ -292,7 +285,7 @@ class Agent(Uncopied):
         """
         words = number_of(form), self.second(None)
         with self.lock:
-            saving, text = answer_and_bytes(AGENT_SAVE, self.handle, *words, room=HEADER_ROOM)
+            saving, text = answer_and_bytes(library.AGENT_SAVE, self.handle, *words, room=HEADER_ROOM)
         left_out: int = checked(saving).left_out
         replace(os.path.realpath(path), text)
         return left_out
@@ -309,9 +302,9 @@ class Agent(Uncopied):
         form = form if form is not None else JSON if text.lstrip()[:1] == b"{" else NETSCAPE
         number, second, most = number_of(form), self.second(None), text.count(b"\n") + 1
         bad = (SIZE * most)()
-        with self.lock, self.rules_lock:
+        with self.lock, self.rules.lock:
             words = self.handle, self.rules, number, text, len(text), second, bad, most
-            count = checked(AGENT_LOAD(*words)).bad_lines
+            count = checked(library.AGENT_LOAD(*words)).bad_lines
             self.trim(second)
         return bad[:count]
 
@@ -375,6 +368,6 @@ def replace(path: str, text: bytes) -> None:
         os.close(directory)
 
 
-def header_bytes(text: str | bytes) -> bytes:
+def header_bytes(text: Text) -> bytes:
     """The bytes of a text of a header. A lone surrogate stands for a byte that isn't UTF-8 (PEP 383)."""
     return text.encode(errors="surrogateescape") if isinstance(text, str) else bytes_of(text)

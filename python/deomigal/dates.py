@@ -5,7 +5,7 @@ import datetime
 import time
 from typing import Any
 
-from ._library import PRINT_DATE, READ_DATE, bytes_from, bytes_of, checked
+from ._library import PRINT_DATE, READ_DATE, Text, bytes_from, bytes_of, checked
 from .errors import NoDate, error_of
 
 # The first second that `datetime` has, the last one since 1970, and one more than the last that a call takes.
@@ -46,7 +46,7 @@ def numbers_of(moment: datetime.datetime) -> tuple[int, ...]:
     return moment.utctimetuple()[:6]
 
 
-def read_date(text: str | bytes) -> datetime.datetime | None:
+def read_date(text: Text) -> datetime.datetime | None:
     """Reads the text as a date and time in UTC, in one of four forms (RFC 9110 5.6.7, RFC 6265 5.1.1). Returns None if
     it isn't one, or if its year is below 1. Raises `NotUtf8`.
 

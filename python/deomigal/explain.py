@@ -9,10 +9,8 @@ import re
 from typing import Any, NamedTuple
 
 from ._header import HERE
-from ._library import (
-    EXPLAIN, EXPLAIN_LINES, REFUSAL_SECTION, REFUSAL_SENTENCE, SUFFIXES_FREE, SUFFIXES_NEW, OwnHandle, Request,
-    answer_and_bytes, bytes_at, bytes_from, bytes_of, checked, perform,
-)
+from . import _library as library
+from ._library import OwnHandle, Text, answer_and_bytes, bytes_at, bytes_from, bytes_of, checked, perform
 from ._locks import Lock
 from .addresses import Address, address_of
 from .cookies import RULES
@@ -55,7 +53,7 @@ class Stored(NamedTuple):
 
 
 def verdict(
-    url: str, text: str | bytes, suffixes: str | bytes | None = None, is_cross_site: bool = False,
+    url: str, text: Text, suffixes: Text | None = None, is_cross_site: bool = False,
     now: datetime.datetime | None = None,
 ) -> Stored | Refusal:
     """What a browser without cookies stores of the cookie in a `Set-Cookie` header's value, or why it refuses it.
@@ -71,9 +69,9 @@ def verdict(
     >>> verdict("https://shop.example/", "lang=en; Domain=other.example").step
     'ForeignDomain'
     """
-    request, (rules, lock) = request_of(address_of(url, is_cross_site)), rules_of(list_text(suffixes))
-    with lock:
-        found, texts = answer_and_bytes(EXPLAIN, rules, request, text, second_of(now), room=ROOM)
+    request, rules = request_of(address_of(url, is_cross_site)), rules_of(list_text(suffixes))
+    with rules.lock:
+        found, texts = answer_and_bytes(library.EXPLAIN, rules, request, text, second_of(now), room=ROOM)
     cookie = checked(found).stored
     if found.refusal:
         return refusal_of(found.refusal)
@@ -93,18 +91,18 @@ def fields_of(cookie: Any, texts: bytes, errors: str, end: int) -> tuple[Any, ..
 def request_of(address: Address, is_safe: bool = True) -> Any:
     """The request to the address, for C."""
     host, path = bytes_of(address.host), bytes_of(address.path)
-    return Request(host, len(host), path, len(path), *address[2:], is_safe)
+    return library.Request(host, len(host), path, len(path), *address[2:], is_safe)
 
 
 @functools.lru_cache(maxsize=None)
 def refusal_of(number: int) -> Refusal:
     """Why the step with the number refuses a cookie."""
-    sentence, section = (bytes_from(call, number, room=ROOM).decode() for call in (REFUSAL_SENTENCE, REFUSAL_SECTION))
-    return Refusal(STEPS[number - 1], sentence, section)
+    calls = library.REFUSAL_SENTENCE, library.REFUSAL_SECTION
+    return Refusal(STEPS[number - 1], *(bytes_from(call, number, room=ROOM).decode() for call in calls))
 
 
 def refusal(
-    url: str, text: str | bytes, suffixes: str | bytes | None = None, is_cross_site: bool = False
+    url: str, text: Text, suffixes: Text | None = None, is_cross_site: bool = False
 ) -> Refusal | None:
     """Why a browser refuses the cookie, as `verdict` says, or None if it stores it.
 
@@ -118,7 +116,7 @@ def refusal(
 
 
 def explain(
-    url: str, text: str | bytes, suffixes: str | bytes | None = None, is_cross_site: bool = False,
+    url: str, text: Text, suffixes: Text | None = None, is_cross_site: bool = False,
     now: datetime.datetime | None = None,
 ) -> str:
     """A line that says what a browser stores of the cookie, or why it refuses it, as `verdict` does.
@@ -134,7 +132,7 @@ def explain(
 
 
 def report(
-    url: str, paste: str | bytes, suffixes: str | bytes | None = None, is_cross_site: bool = False,
+    url: str, paste: Text, suffixes: Text | None = None, is_cross_site: bool = False,
     now: datetime.datetime | None = None,
 ) -> bytes:
     """What a browser makes of lines, one after the other, as the program cookie_explain says it: of each line that
@@ -143,9 +141,8 @@ def report(
     >>> report("https://shop.example/", "Set-Cookie: a=1; Path=/\\nNOW Wed, 21 Oct 2015 07:28:00 GMT").splitlines()[1:]
     [b'NOW Wed, 21 Oct 2015 07:28:00 GMT', b'Cookie: a=1']
     """
-    rules, lock = rules_of(list_text(suffixes))
-    with lock:
-        return bytes_from(EXPLAIN_LINES, rules, url, is_cross_site, second_of(now), paste, room=ROOM)
+    words = url, is_cross_site, second_of(now), paste
+    return rules_of(list_text(suffixes)).text(library.EXPLAIN_LINES, *words, room=ROOM)
 
 
 @functools.lru_cache(maxsize=1)
@@ -159,14 +156,15 @@ def suffix_list() -> tuple[str, bytes]:
 
 
 @functools.lru_cache(maxsize=4)
-def rules_of(suffixes: bytes) -> tuple[OwnHandle, Lock]:
-    """The rules of the list, and a lock: only one call at a time may use them. The last lists are kept."""
-    rules = OwnHandle(SUFFIXES_FREE)
-    perform(SUFFIXES_NEW, suffixes, rules)
-    return rules, Lock()
+def rules_of(suffixes: bytes) -> OwnHandle:
+    """The rules of the list, with a lock of their own. The last lists are kept."""
+    rules: OwnHandle = library.Suffixes()
+    rules.lock = Lock()
+    perform(library.SUFFIXES_NEW, suffixes, rules)
+    return rules
 
 
-def list_text(suffixes: str | bytes | None) -> bytes:
+def list_text(suffixes: Text | None) -> bytes:
     """The text of the list, by default `suffix_list`'s."""
     return suffix_list()[1] if suffixes is None else bytes_of(suffixes)
 

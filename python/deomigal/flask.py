@@ -24,7 +24,7 @@ from flask.sessions import session_json_serializer as tagged
 from itsdangerous import BadData
 from werkzeug.exceptions import Conflict, ServiceUnavailable
 
-from ._library import header_of
+from ._library import Text, header_of
 from .cookies import pairs
 from .errors import Gone, RevocationsError
 from .revocations import Revocations
@@ -174,7 +174,7 @@ class FlaskSession(Opened, SecureCookieSession):
         return f"<FlaskSession {list(self.keys())!r}>"
 
 
-def mark_of(value: Any) -> str | bytes | None:
+def mark_of(value: Any) -> Text | None:
     """The same for a value as long as it is the same, or None if it has other types than Python's own."""
     try:
         return value if type(value) is str else marshal.dumps(value, MARSHAL_VERSION)
@@ -253,11 +253,11 @@ class SessionInterface(FlaskSessionInterface):
 
     session_class = FlaskSession
     serializer: Any = tagged
-    salt: str | bytes | None = None
+    salt: Text | None = None
 
     def __init__(
         self, keys: Sequence[bytes] | None = None, idle: int | None = None, clock: Callable[[], float] = time.time, *,
-        refresh: bool = False, migrate: bool = False, serializer: Any = None, salt: str | bytes | None = None,
+        refresh: bool = False, migrate: bool = False, serializer: Any = None, salt: Text | None = None,
         revocations: Revocations | None = None, compress: bool = False,
     ) -> None:
         if keys is not None and salt is not None:

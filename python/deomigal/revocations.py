@@ -268,10 +268,10 @@ class SqliteRevocations:
         """The rows of each statement, if the file is still at its path afterwards. The first connection is left to
         those that read: they wait for none. If another thread is in each, this waits for one."""
         connections = self.connections[first:]
-        connection = next((one for one in connections if one.inner.acquire(False)), None)
+        connection = next((one for one in connections if one.acquire(False)), None)
         if connection is None:
             connection = connections[0]
-            if not connection.inner.acquire(timeout=self.timeout):
+            if not connection.acquire(timeout=self.timeout):
                 raise RevocationsError(f"no connection to the file {self.path} was free for {self.timeout} seconds")
         try:
             if connection.opened is None:
@@ -287,7 +287,7 @@ class SqliteRevocations:
                 raise
             raise RevocationsError(f"the file {self.path} of revoked sessions: {error!r}") from error
         finally:
-            connection.inner.release()
+            connection.release()
 
     def check_file(self) -> None:
         """Raises an error if the file at the path isn't the one that was opened first."""

@@ -8,6 +8,7 @@ import logging
 import time
 from typing import TYPE_CHECKING, Any, Callable, Dict, Iterable, Mapping, MutableMapping, Union
 
+from ._library import Text
 from .compression import MARKS
 from .errors import Gone, RevocationsError
 from .revocations import AnyRevocations, Ask
@@ -224,12 +225,12 @@ class Middleware:
         self, app: Callable[..., Any], secret_key: Any, session_cookie: str = "session",
         max_age: int | None = FORTNIGHT, path: str = "/", same_site: str = "lax", https_only: bool = False,
         domain: str | None = None, *, http_only: bool = True, partitioned: bool = False,
-        fallbacks: Iterable[str | bytes] = (), salt: str | bytes = "deomigal.middleware", idle: int | None = None,
+        fallbacks: Iterable[Text] = (), salt: Text = "deomigal.middleware", idle: int | None = None,
         refresh: bool = False, clock: Callable[[], float] = time.time, revocations: AnyRevocations | None = None,
         too_large: Callable[..., Any] | None = None, compress: bool = False,
     ) -> None:
         # Starlette's `Secret` shows its text only by `str`.
-        newest: str | bytes = secret_key if isinstance(secret_key, bytes) else str(secret_key)
+        newest: Text = secret_key if isinstance(secret_key, bytes) else str(secret_key)
         lifetime = FORTNIGHT if max_age is None else max_age
         self.app, self.clock, self.too_large = app, clock, too_large
         self.lasting = UNTIL_CLOSED if max_age is None else MAX_AGE_AND_EXPIRES
@@ -282,4 +283,4 @@ class Middleware:
         # What was changed must be saved.
         if not (is_changed or self.refresh or self.sessions.must_save(source)):
             return None
-        return await self.sessions.saving(source, ask, self.lasting)
+        return await self.sessions.asave(source, self.lasting, ask)

@@ -15,7 +15,7 @@ from urllib.parse import quote, unquote_to_bytes
 
 from werkzeug.datastructures import MultiDict
 
-from ._library import wire_bytes
+from ._library import Text, wire_bytes
 from .cookies import pairs, print_cookie
 from .dates import date_at, read_date
 from .errors import BadAttribute, EmptyName, NoDate, error_of
@@ -82,7 +82,7 @@ def expiry(expires: Expiry, age: int | None) -> datetime.datetime | None:
 
 
 def parse_cookie(
-    header: Mapping[str, Any] | str | bytes | None = None, cls: Callable[[list[tuple[str, str]]], Any] | None = None,
+    header: Mapping[str, Any] | Text | None = None, cls: Callable[[list[tuple[str, str]]], Any] | None = None,
     *, keep_quotes: bool = False,
 ) -> Any:
     """The names and values in a `Cookie` header, or in that of a WSGI environment, in their order, by default in a
