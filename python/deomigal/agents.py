@@ -6,13 +6,13 @@ from __future__ import annotations
 
 import contextlib
 import ctypes
-import datetime
 import errno
 import itertools
 import os
 import stat
 import tempfile
 import time
+from datetime import datetime
 from typing import Any, Callable, Iterable, Iterator, NamedTuple
 
 from . import _library as library
@@ -134,9 +134,7 @@ class Agent(Uncopied, contextlib.AbstractContextManager["Agent"]):
         words: Any = dict(zip(("per_domain", "per_site", "total"), self.limits), clock=self.clock)
         return Agent(self.suffixes, is_localhost_secure=self.is_localhost_secure, **words)
 
-    def read(
-        self, url: str, text: Text, now: datetime.datetime | None = None, context: Context = SAME_SITE
-    ) -> Refusal | None:
+    def read(self, url: str, text: Text, now: datetime | None = None, context: Context = SAME_SITE) -> Refusal | None:
         """Reads the value of a `Set-Cookie` header of the response from the URL, at the time `now` or the clock's.
         Returns None if the cookie is stored, or why it is refused. What is expired drops a cookie.
 
@@ -171,7 +169,7 @@ class Agent(Uncopied, contextlib.AbstractContextManager["Agent"]):
         perform(library.AGENT_TRIM, self.handle, self.rules, *self.limits, second)
         self.stored, self.enough = 0, max(min(self.limits), library.AGENT_COUNT(self.handle).length // 4)
 
-    def header(self, url: str, now: datetime.datetime | None = None, context: Context = SAME_SITE) -> bytes:
+    def header(self, url: str, now: datetime | None = None, context: Context = SAME_SITE) -> bytes:
         """The value of the `Cookie` header that a request to the URL sends, at the time `now` or the clock's. It is
         empty if the request sends none: leave the header out then. It is the last access of each cookie that is sent.
 
@@ -203,7 +201,7 @@ class Agent(Uncopied, contextlib.AbstractContextManager["Agent"]):
             yield AgentCookie(*fields_of(stored, texts, "surrogateescape", second + stored.lifetime))
 
     def unsent(
-        self, url: str, now: datetime.datetime | None = None, context: Context = SAME_SITE
+        self, url: str, now: datetime | None = None, context: Context = SAME_SITE
     ) -> list[tuple[AgentCookie, list[str]]]:
         """The stored cookies that a request to the URL doesn't send, each with why it doesn't: every condition of
         RFC 6265bis that it fails.
@@ -326,7 +324,7 @@ class Agent(Uncopied, contextlib.AbstractContextManager["Agent"]):
         is_safe = context.is_safe and method.upper() in SAFE_METHODS
         return b"" if address is None else self.header_at(address, is_safe)
 
-    def second(self, now: datetime.datetime | None) -> int:
+    def second(self, now: datetime | None) -> int:
         """The time in whole seconds since 1970, by default the clock's. Raises `NoDate` if no call takes it."""
         return whole_second(self.clock()) if now is None else second_of(now)
 

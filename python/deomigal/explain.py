@@ -2,10 +2,10 @@
 from __future__ import annotations
 
 import contextlib
-import datetime
 import functools
 import pathlib
 import re
+from datetime import datetime, timezone
 from typing import Any, NamedTuple
 
 from ._header import HERE
@@ -53,8 +53,7 @@ class Stored(NamedTuple):
 
 
 def verdict(
-    url: str, text: Text, suffixes: Text | None = None, is_cross_site: bool = False,
-    now: datetime.datetime | None = None,
+    url: str, text: Text, suffixes: Text | None = None, is_cross_site: bool = False, now: datetime | None = None
 ) -> Stored | Refusal:
     """What a browser without cookies stores of the cookie in a `Set-Cookie` header's value, or why it refuses it.
 
@@ -101,9 +100,7 @@ def refusal_of(number: int) -> Refusal:
     return Refusal(STEPS[number - 1], *(bytes_from(call, number, room=ROOM).decode() for call in calls))
 
 
-def refusal(
-    url: str, text: Text, suffixes: Text | None = None, is_cross_site: bool = False
-) -> Refusal | None:
+def refusal(url: str, text: Text, suffixes: Text | None = None, is_cross_site: bool = False) -> Refusal | None:
     """Why a browser refuses the cookie, as `verdict` says, or None if it stores it.
 
     >>> refusal("https://shop.example/", "a=1; SameSite=None")[:2]
@@ -116,8 +113,7 @@ def refusal(
 
 
 def explain(
-    url: str, text: Text, suffixes: Text | None = None, is_cross_site: bool = False,
-    now: datetime.datetime | None = None,
+    url: str, text: Text, suffixes: Text | None = None, is_cross_site: bool = False, now: datetime | None = None
 ) -> str:
     """A line that says what a browser stores of the cookie, or why it refuses it, as `verdict` does.
 
@@ -132,8 +128,7 @@ def explain(
 
 
 def report(
-    url: str, paste: Text, suffixes: Text | None = None, is_cross_site: bool = False,
-    now: datetime.datetime | None = None,
+    url: str, paste: Text, suffixes: Text | None = None, is_cross_site: bool = False, now: datetime | None = None
 ) -> bytes:
     """What a browser makes of lines, one after the other, as the program cookie_explain says it: of each line that
     counts, and last the `Cookie` header of the next request. The other arguments are as for `verdict`.
@@ -169,9 +164,9 @@ def list_text(suffixes: Text | None) -> bytes:
     return suffix_list()[1] if suffixes is None else bytes_of(suffixes)
 
 
-def second_of(now: datetime.datetime | None) -> int:
+def second_of(now: datetime | None) -> int:
     """The time in whole seconds since 1970 in UTC, by default the clock's. A time without a zone counts as UTC."""
-    if not isinstance(now, (datetime.datetime, type(None))):
+    if not isinstance(now, (datetime, type(None))):
         raise TypeError("a time is a datetime.datetime")
-    now = now or datetime.datetime.now(datetime.timezone.utc)
-    return whole_second(now.replace(microsecond=0, tzinfo=now.tzinfo or datetime.timezone.utc).timestamp())
+    now = now or datetime.now(timezone.utc)
+    return whole_second(now.replace(microsecond=0, tzinfo=now.tzinfo or timezone.utc).timestamp())

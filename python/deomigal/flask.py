@@ -75,8 +75,8 @@ class FlaskSession(Opened, SecureCookieSession):
         # The texts that it was opened from; and each value's text with the mark that the value had then.
         self.serializer, self.opened = serializer, dict(source.texts)
         self.printed = {name: (mark_of(values[name]), text) for name, text in self.opened.items() if name in values}
-        # The texts that were saved last, how long the browser keeps them, and the cookie, or None if it was too large.
-        self.saved: tuple[dict[str, str], int, str | None] | None = None
+        # What was saved last, and the cookie, or None if it was too large.
+        self.saved: tuple[Any, str | None] = None, None
         # Whether the request has only revoked sessions. Then it drops no cookie: the browser may have another one.
         self.showed_revoked = source.shows_revoked
         # Whether a store failed, or another request renewed or ended it. Then the browser keeps what it has.
@@ -91,24 +91,12 @@ class FlaskSession(Opened, SecureCookieSession):
         copied.modified, copied.opened, copied.printed = self.modified, self.opened, dict(self.printed)
         return copied
 
-    def renew(self) -> None:
-        """Starts it anew with the same values and another id, so that the lifetime counts from this request. Call it at
-        a login, and on a page that keeps something for one. With `revocations` the old session opens no more."""
-        self.source.renew()
-        self.modified = self.accessed = True
-        self.saved = None
-
-    def clear(self) -> None:
-        """Drops the values, and starts it anew. A copy of its cookie stays open: at a logout call `revoke`."""
-        super().clear()
-        self.renew()
-
     def revoke(self) -> bool:
         """Logs the visitor out: revokes what the browser has, in each copy of its cookie, drops the values, and has the
         browser drop its cookie. Returns whether the browser had something. Raises what `Sessions.revoke` does."""
         is_ended = self.end()
         is_forgotten = self.get(REMEMBER) == "clear"
-        super().clear()
+        SecureCookieSession.clear(self)
         if is_forgotten:
             # So Flask-Login drops the cookie that would log the user in again.
             self[REMEMBER] = "clear"
@@ -123,7 +111,6 @@ class FlaskSession(Opened, SecureCookieSession):
             raise http_error_of(error) from error
         if is_ended:
             self.modified = self.accessed = True
-            self.saved = None
         return is_ended
 
     def check(self) -> None:
@@ -135,15 +122,20 @@ class FlaskSession(Opened, SecureCookieSession):
     def save(self) -> str:
         """The text of the cookie that saves it, until the browser closes if it isn't permanent. It is made once for the
         same values."""
-        texts, lasting = self.texts(), MAX_AGE_AND_EXPIRES if self.permanent else UNTIL_CLOSED
-        if self.saved is None or self.saved[:2] != (texts, lasting) or self.saved[2] is None:
-            self.source.texts, self.saved = texts, (texts, lasting, None)
+        wanted, (saved, text) = self.wanted(), self.saved
+        if text is None or wanted != saved:
+            self.source.texts, self.saved = wanted[0], (wanted, None)
             try:
-                self.saved = texts, lasting, self.sessions.save(self.source, lasting)
+                text = self.sessions.save(self.source, wanted[1])
             except FAILURES as error:
                 self.is_failed = True
                 raise http_error_of(error) from error
-        return cast(str, self.saved[2])
+            self.saved = wanted, text
+        return text
+
+    def wanted(self) -> tuple[dict[str, str], int, bytes]:
+        """What is saved: its texts, how long the browser keeps them, and its id."""
+        return self.texts(), MAX_AGE_AND_EXPIRES if self.permanent else UNTIL_CLOSED, self.source.id
 
     def texts(self) -> dict[str, str]:
         """The texts of its values. What wasn't used has the texts that it was opened from."""
@@ -168,7 +160,7 @@ class FlaskSession(Opened, SecureCookieSession):
 
     def is_refused(self) -> bool:
         """Whether a check raised `TooLarge` for the values that it has."""
-        return self.saved is not None and self.saved[2] is None and self.saved[0] == self.texts()
+        return self.saved == (self.wanted(), None)
 
     def __repr__(self) -> str:
         return f"<FlaskSession {list(self.keys())!r}>"

@@ -99,6 +99,17 @@ class Opened(Generations):
         saved then: the request may be an old tab's, whose browser has another session by now."""
         return self.source.shows_revoked
 
+    def renew(self) -> None:
+        """Starts it anew with the same values and another id, so that the lifetime counts from this request. Call it at
+        a login, and on a page that keeps something for one. With `revocations` the old session opens no more."""
+        self.source.renew()
+        self.modified = self.accessed = True
+
+    def clear(self: Any) -> None:
+        """Drops the values, and starts it anew. A copy of its cookie stays open: at a logout call `revoke`."""
+        super().clear()  # type: ignore[misc]
+        self.renew()
+
 
 def counted(kind: type, name: str) -> Any:
     """The call of a dict's class, which counts as a use of the session."""
@@ -160,17 +171,6 @@ class CookieSession(Opened, Mapped):
         """Whether the request has no open session."""
         return self.source.is_new
 
-    def renew(self) -> None:
-        """Starts it anew with the same values and another id, so that the lifetime counts from this request. Call it at
-        a login, and on a page that keeps something for one. With `revocations` the old session opens no more."""
-        self.accessed = True
-        self.source.renew()
-
-    def clear(self) -> None:
-        """Drops the values, and starts it anew. A copy of its cookie stays open: at a logout call `revoke`."""
-        super().clear()
-        self.renew()
-
     def revoke(self) -> bool:
         """Logs the visitor out: revokes what the browser has, in each copy of its cookie, drops the values, and has the
         browser drop its cookie. Returns whether the browser had something. Raises what `Sessions.revoke` does."""
@@ -182,7 +182,7 @@ class CookieSession(Opened, Mapped):
 
     def drop_values(self, is_ended: bool) -> bool:
         """Drops the values after a logout. Returns whether the browser had a session."""
-        super().clear()
+        Mapped.clear(self)  # type: ignore[arg-type]
         self.is_ended = self.is_ended or is_ended
         return is_ended
 
