@@ -18,14 +18,6 @@ def date(text: str) -> datetime.datetime:
     return moment
 
 
-def explain(arguments: argparse.Namespace) -> None:
-    """Prints what a browser makes of the lines of standard input."""
-    out, path = sys.stdout.buffer, arguments.suffixes
-    title, suffixes = (path, pathlib.Path(path).read_bytes()) if path else suffix_list()
-    out.write(f"public suffixes: {title}\n".encode())
-    out.write(report(arguments.url, sys.stdin.buffer.read(), suffixes, arguments.cross_site, arguments.now))
-
-
 def main() -> None:
     parser = argparse.ArgumentParser(prog="python -m deomigal")
     command = parser.add_subparsers(required=True, metavar="explain").add_parser(
@@ -37,8 +29,11 @@ def main() -> None:
     command.add_argument("--suffixes", metavar="FILE", help="the list of public suffixes")
     command.add_argument("--cross-site", action="store_true", help="another site's page made the request")
     arguments = parser.parse_args()
+    out, path = sys.stdout.buffer, arguments.suffixes
     try:
-        explain(arguments)
+        title, suffixes = (path, pathlib.Path(path).read_bytes()) if path else suffix_list()
+        out.write(f"public suffixes: {title}\n".encode())
+        out.write(report(arguments.url, sys.stdin.buffer.read(), suffixes, arguments.cross_site, arguments.now))
     except (OSError, ValueError) as error:
         sys.stdout.flush()
         command.error(str(error))

@@ -137,6 +137,13 @@ class Uncopied:
         raise TypeError(f"a {type(self).__name__} can't be copied or pickled: make another one")
 
 
+def typed(value: Any, kinds: Any, rule: str) -> Any:
+    """The value, or `TypeError` with the rule if it has another type."""
+    if not isinstance(value, kinds):
+        raise TypeError(rule)
+    return value
+
+
 def bytes_of(text: str | bytes) -> bytes:
     """The text's bytes. A lone surrogate stands for a byte that isn't UTF-8, and its bytes aren't either."""
     if isinstance(text, str):
@@ -202,14 +209,10 @@ def checked(answer: Any) -> Any:
     return answer
 
 
-def answer_and_bytes(function: Any, *inputs: Any, **rooms: Any) -> tuple[Any, bytes]:
-    """What a call returns, and its bytes, or the buffer if its answer has spans."""
-    return written(function, arguments_of(function, inputs), **rooms)
-
-
-def written(function: Any, arguments: Any, room: int = 256, buffer: Any = None) -> tuple[Any, bytes]:
-    """The same for the arguments of C. If the buffer is too short, the call is made again with one that fits. `buffer`
-    is one that only this call uses now."""
+def answer_and_bytes(function: Any, *inputs: Any, room: int = 256, buffer: Any = None) -> tuple[Any, bytes]:
+    """What a call returns, and its bytes, or the buffer if its answer has spans. If the buffer is too short, it
+    is called again with one that fits. `buffer` is one that only this call uses now."""
+    arguments = arguments_of(function, inputs)
     while True:
         buffer = array_type(ctypes.c_char, room)() if buffer is None else buffer
         answer = function(*arguments, buffer, len(buffer))
@@ -245,22 +248,21 @@ def bytes_at(text: bytes, span: Any) -> bytes:
 
 def listed(texts: bytes) -> list[tuple[str, str]]:
     """The names and texts of a list: each pair after the lengths of both."""
-    found, last, end, whole = [], 0, len(texts), whole_of(texts)
+    found, last, end, (whole, decode) = [], 0, len(texts), whole_of(texts)
     while last < end:
         name, text = LENGTHS.unpack_from(texts, last)
-        first = last + 16
+        first = last + LENGTHS.size
         middle = first + name
         last = middle + text
-        found.append(
-            (whole[first:middle], whole[middle:last]) if whole else
-            (texts[first:middle].decode(), texts[middle:last].decode())
-        )
+        found.append((decode(whole[first:middle]), decode(whole[middle:last])))
     return found
 
 
-def whole_of(texts: bytes) -> str:
-    """All the texts, if each byte is a character, or nothing. To cut texts from it is faster than to decode each."""
-    return texts.decode() if texts.isascii() else ""
+def whole_of(texts: bytes) -> tuple[Any, Callable[[Any], str]]:
+    """The texts, and what decodes a part of them. If each byte is a character, one call decodes them all."""
+    if texts.isascii():
+        return texts.decode(), str
+    return texts, bytes.decode
 
 
 def unescaped(text: str) -> str:

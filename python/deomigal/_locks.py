@@ -30,16 +30,14 @@ def enter_all() -> None:
     """Enters each lock. As long as it waits for one, others may make new ones."""
     FORKS.acquire()
     entered: set[Lock] = set()
-    while True:
-        LOCKS_LOCK.acquire()
-        new = set(LOCKS) - entered
-        if not new:
-            break
+    LOCKS_LOCK.acquire()
+    while new := set(LOCKS) - entered:
         LOCKS_LOCK.release()
         for lock in new:
             lock.acquire()
             lock.before_fork()
         entered |= new
+        LOCKS_LOCK.acquire()
     held.extend([FORKS, LOCKS_LOCK, *entered])
 
 

@@ -5,7 +5,7 @@ import functools
 import re
 from typing import NamedTuple
 
-from ._library import READ_URL, answer_and_bytes, bytes_at, checked
+from ._library import READ_URL, answer_and_bytes, bytes_at, checked, typed
 from .errors import NoUrl
 
 # What no host has that is the same to all readers: what ends it in a URL, an escape, a blank, or an empty label.
@@ -62,8 +62,6 @@ def address_at(scheme: str, host: str, path: str, is_localhost_secure: bool = Tr
 def read_url(url: str) -> tuple[str, str, bool, bool, bool]:
     """The host and the path of a URL, whether the host is an IP address, whether the scheme is https, and whether the
     host is this machine."""
-    if not isinstance(url, str):
-        raise TypeError("a URL is a str")
-    reading, texts = answer_and_bytes(READ_URL, url)
+    reading, texts = answer_and_bytes(READ_URL, typed(url, str, "a URL is a str"))
     host, path = (bytes_at(texts, span).decode() for span in (checked(reading).host, reading.path))
     return host, path, reading.is_address, reading.is_https, reading.is_local

@@ -4,6 +4,8 @@ The length tells of what is compressed. `Sessions` says when not to do so.
 """
 from __future__ import annotations
 
+import functools
+import re
 import zlib
 from typing import Mapping
 
@@ -11,7 +13,7 @@ from ._library import unescaped
 
 # The characters of a text that the library escapes in a session's cookie, as three bytes each, and how.
 MARKS = "%&+="
-ESCAPES = [(mark, f"%{ord(mark):02X}") for mark in MARKS]
+escape = functools.partial(re.compile(f"[{MARKS}]").sub, lambda mark: f"%{ord(mark[0]):02X}")
 # The name of the one text that a compressed session has. An application hardly has it, and may.
 COMPRESSED = "\0"
 # How many bytes the form of a session's texts may have. A longer one isn't compressed, nor expanded.
@@ -53,13 +55,6 @@ def texts_of(kept: dict[str, str]) -> dict[str, str]:
 def escaped_form(texts: Mapping[str, str]) -> bytes:
     """The texts as a form in which only the marks are escaped."""
     return "&".join(f"{escape(name)}={escape(text)}" for name, text in texts.items()).encode()
-
-
-def escape(text: str) -> str:
-    """The text with escapes of the marks."""
-    for mark, code in ESCAPES:
-        text = text.replace(mark, code) if mark in text else text
-    return text
 
 
 def form_texts(form: bytes) -> dict[str, str]:

@@ -10,11 +10,11 @@ from typing import Any, NamedTuple
 
 from ._header import HERE
 from . import _library as library
-from ._library import OwnHandle, Text, answer_and_bytes, bytes_at, bytes_from, bytes_of, checked, perform
+from ._library import OwnHandle, Text, answer_and_bytes, bytes_at, bytes_from, bytes_of, checked, perform, typed
 from ._locks import Lock
 from .addresses import Address, address_of
 from .cookies import RULES
-from .dates import whole_second
+from .dates import A_TIME, whole_second
 
 # The steps that refuse a cookie, in the order of their numbers in cookie.h.
 STEPS = (
@@ -166,7 +166,5 @@ def list_text(suffixes: Text | None) -> bytes:
 
 def second_of(now: datetime | None) -> int:
     """The time in whole seconds since 1970 in UTC, by default the clock's. A time without a zone counts as UTC."""
-    if not isinstance(now, (datetime, type(None))):
-        raise TypeError("a time is a datetime.datetime")
-    now = now or datetime.now(timezone.utc)
+    now = datetime.now(timezone.utc) if now is None else typed(now, datetime, A_TIME)
     return whole_second(now.replace(microsecond=0, tzinfo=now.tzinfo or timezone.utc).timestamp())

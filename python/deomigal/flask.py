@@ -24,13 +24,13 @@ from flask.sessions import session_json_serializer as tagged
 from itsdangerous import BadData
 from werkzeug.exceptions import Conflict, ServiceUnavailable
 
-from ._library import Text, header_of
+from ._library import Text, header_of, typed
 from .cookies import pairs
 from .errors import Gone, RevocationsError
 from .revocations import Revocations
 from .secrets import keys_of
 from .sessions import MAX_AGE_AND_EXPIRES, UNTIL_CLOSED, Session, Sessions
-from .values import CODER, FAILURES, Failure, Opened, answer_to, checked_refresh, counted, note_unsaved
+from .values import A_REFRESH, CODER, FAILURES, Failure, Opened, answer_to, counted, note_unsaved
 
 # Where a request's environment has its session, and an application's extensions the interface.
 KEY = "deomigal.flask.session"
@@ -158,10 +158,6 @@ class FlaskSession(Opened, SecureCookieSession):
         """Whether it was changed, or a value within it."""
         return self.modified or self.texts() != self.opened
 
-    def is_refused(self) -> bool:
-        """Whether a check raised `TooLarge` for the values that it has."""
-        return self.saved == (self.wanted(), None)
-
     def __repr__(self) -> str:
         return f"<FlaskSession {list(self.keys())!r}>"
 
@@ -255,7 +251,7 @@ class SessionInterface(FlaskSessionInterface):
         if keys is not None and salt is not None:
             raise ValueError("a salt is for keys that are derived from secrets")
         self.keys, self.idle, self.clock, self.migrate = keys, idle, clock, migrate
-        self.refresh = checked_refresh(refresh)
+        self.refresh = typed(refresh, bool, A_REFRESH)
         self.serializer = self.serializer if serializer is None else serializer
         self.salt = self.salt if salt is None else salt
         self.revocations, self.compress = revocations, compress
@@ -409,9 +405,9 @@ class SessionInterface(FlaskSessionInterface):
         if not session:
             is_dropped = session.modified and not session.showed_revoked
             return session.sessions.end(session.source.now) if is_dropped else None
-        if not self.should_set_cookie(app, session) or session.is_refused():
-            return None
-        return session.save()
+        # What a check has refused isn't saved.
+        is_refused = session.saved == (session.wanted(), None)
+        return session.save() if self.should_set_cookie(app, session) and not is_refused else None
 
     def renew_at_login(self, app: Flask, **_: Any) -> None:
         """Starts the session anew at a login, if this keeps the application's sessions."""

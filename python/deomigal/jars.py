@@ -6,7 +6,7 @@ import datetime
 from typing import Iterator, Mapping
 
 from . import _library as library
-from ._library import DONE, SHORT, OwnHandle, Text, Uncopied, bytes_from, bytes_of, check, checked, header_of, listed, seeds, written
+from ._library import DONE, SHORT, OwnHandle, Text, Uncopied, bytes_from, bytes_of, check, checked, header_of, listed, seeds
 from .dates import print_date
 from .errors import NotFound
 

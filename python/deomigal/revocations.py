@@ -16,6 +16,7 @@ import time
 import weakref
 from typing import Any, Awaitable, Callable, Iterable, Iterator, Protocol, Sequence, Union
 
+from ._library import typed
 from ._locks import Lock
 from ._steps import awaited, in_thread, run
 from .errors import RevocationsError
@@ -85,9 +86,8 @@ async def ask_async(revocations: Any, name: str, *words: Any) -> Any:
 
 def was_revoked(found: Any) -> bool:
     """What `revoke` returned: whether the id was revoked already."""
-    if not isinstance(found, bool):
-        raise TypeError("revoke of the revocations returns a bool: whether the id was revoked already")
-    return found
+    rule = "revoke of the revocations returns a bool: whether the id was revoked already"
+    return typed(found, bool, rule)  # type: ignore[no-any-return]
 
 
 def id_of(id: bytes) -> bytes:
@@ -205,11 +205,8 @@ def connect(path: str, timeout: float, create: bool = False) -> sqlite3.Connecti
 
 def rows(connection: sqlite3.Connection, statement: str, *values: Any) -> list[Any]:
     """The rows of a statement. Its transaction ends with its cursor, which PyPy doesn't close by itself."""
-    cursor = connection.execute(statement, values)
-    try:
+    with contextlib.closing(connection.execute(statement, values)) as cursor:
         return cursor.fetchall()
-    finally:
-        cursor.close()
 
 
 def tables(connection: sqlite3.Connection) -> list[str]:

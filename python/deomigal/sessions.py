@@ -7,7 +7,9 @@ import os
 from typing import Any, Callable, Iterator, MutableMapping, Sequence, cast
 
 from . import _library as library
-from ._library import DONE, OwnHandle, Text, Uncopied, bytes_from, check, checked, header_of, listed, perform, ring_of
+from ._library import (
+    DONE, OwnHandle, Text, Uncopied, bytes_from, check, checked, header_of, listed, perform, ring_of, typed,
+)
 from ._locks import Lock
 from ._steps import run
 from .compression import kept_of, texts_of
@@ -83,9 +85,7 @@ class Session(Generations, MutableMapping[str, str]):
     kind = str
 
     def __init__(self, now: int) -> None:
-        if not isinstance(now, int):
-            raise TypeError("a second is an int")
-        self.now = whole_second(now)
+        self.now = whole_second(typed(now, int, "a second is an int"))
         self.begin()
 
     def begin(self) -> None:
@@ -192,9 +192,7 @@ class Sessions(Uncopied):
         partitioned: bool = False, revocations: AnyRevocations | None = None, compress: bool = False,
     ) -> None:
         ring = ring_of(keys)
-        if not isinstance(lifetime, int) or not isinstance(idle, int):
-            raise TypeError("a limit is an int of seconds")
-        if not all(0 <= limit < 2**32 for limit in (lifetime, idle)):
+        if not all(0 <= typed(limit, int, "a limit is an int of seconds") < 2**32 for limit in (lifetime, idle)):
             raise OverflowError("a limit has at most 32 bits")
         if revocations is not None and not all(hasattr(revocations, name) for name in ("is_revoked", "revoke")):
             raise TypeError("revocations have calls is_revoked and revoke")
@@ -371,9 +369,7 @@ class Sessions(Uncopied):
 
     async def prepare(self, session: Session, ask: Ask) -> None:
         """Has the library know of the session what this object does."""
-        if not isinstance(session, Session):
-            raise TypeError("what is saved is a Session")
-        await self.reopen(session, ask)
+        await self.reopen(typed(session, Session, "what is saved is a Session"), ask)
         if not (session.is_started and session.handle.is_open):
             with self.lock:
                 if session.handle.is_open:

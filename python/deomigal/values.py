@@ -8,7 +8,7 @@ import logging
 import time
 from typing import TYPE_CHECKING, Any, Callable, Dict, Iterable, Mapping, MutableMapping, Union
 
-from ._library import Text
+from ._library import Text, typed
 from .compression import MARKS
 from .errors import Gone, RevocationsError
 from .revocations import AnyRevocations, Ask
@@ -26,6 +26,7 @@ Failure = Union[RevocationsError, Gone]
 FAILURES = (RevocationsError, Gone)
 LOG = logging.getLogger("deomigal")
 FORTNIGHT = 14 * 24 * 3600
+A_REFRESH = "refresh is a bool: whether each request that used the session saves it"
 # How the values of a session are printed: as they are, or in ASCII, with escapes.
 CODER = json.JSONEncoder(separators=(",", ":"), ensure_ascii=False)
 ASCII_CODER = json.JSONEncoder(separators=(",", ":"))
@@ -69,13 +70,6 @@ def unpack(texts: Mapping[str, str]) -> bytes:
         encoded = texts[ENCODED]
         return base64.b64decode(encoded + "=" * (-len(encoded) % 4), b"-_", validate=True)
     raise ValueError("these texts aren't a session of values")
-
-
-def checked_refresh(refresh: bool) -> bool:
-    """Whether each request that used a session saves it."""
-    if not isinstance(refresh, bool):
-        raise TypeError("refresh is a bool: whether each request that used the session saves it")
-    return refresh
 
 
 class Opened(Generations):
@@ -204,9 +198,7 @@ class CookieSession(Opened, Mapped):
 
 def session_at(place: Mapping[str, Any], key: str) -> CookieSession:
     """The session there, which a middleware opened. Raises `TypeError` if there is none."""
-    session = place.get(key)
-    if not isinstance(session, CookieSession):
-        raise TypeError("there is no session of SessionMiddleware here")
+    session: CookieSession = typed(place.get(key), CookieSession, "there is no session of SessionMiddleware here")
     return session
 
 
@@ -234,7 +226,7 @@ class Middleware:
         lifetime = FORTNIGHT if max_age is None else max_age
         self.app, self.clock, self.too_large = app, clock, too_large
         self.lasting = UNTIL_CLOSED if max_age is None else MAX_AGE_AND_EXPIRES
-        self.refresh = checked_refresh(refresh)
+        self.refresh = typed(refresh, bool, A_REFRESH)
         self.sessions = Sessions(
             keys_of([newest, *fallbacks], salt), session_cookie, lifetime, lifetime if idle is None else idle,
             path=path, domain=domain, secure=https_only, http_only=http_only, same_site=same_site.title(),

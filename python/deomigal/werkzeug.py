@@ -15,7 +15,7 @@ from urllib.parse import quote, unquote_to_bytes
 
 from werkzeug.datastructures import MultiDict
 
-from ._library import Text, wire_bytes
+from ._library import Text, typed, wire_bytes
 from .cookies import pairs, print_cookie
 from .dates import date_at, read_date
 from .errors import BadAttribute, EmptyName, NoDate, error_of
@@ -48,9 +48,7 @@ def dump_cookie(
     if samesite == "":
         raise error_of(BadAttribute.status)
     if domain:
-        if not isinstance(domain, str):
-            raise TypeError("a domain is a str")
-        domain = domain.partition(":")[0].lstrip(".").encode("idna").decode("ascii")
+        domain = typed(domain, str, "a domain is a str").partition(":")[0].lstrip(".").encode("idna").decode("ascii")
     age = int(max_age.total_seconds()) if isinstance(max_age, datetime.timedelta) else max_age
     text = print_cookie(
         print_cookie(key, "").rpartition("=")[0], quote(value, safe=ALLOWED), is_escaped=False,
