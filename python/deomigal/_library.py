@@ -218,20 +218,13 @@ def answer_and_bytes(function: Any, *inputs: Any, room: int = 256, buffer: Any =
         answer = function(*arguments, buffer, len(buffer))
         if answer.status != BufferTooShort.status:
             return answer, buffer[: getattr(answer, "length", room)]
-        buffer, room = None, answer.length if hasattr(answer, "length") else end_of(getattr(answer, "stored", answer))
+        buffer, room = None, getattr(answer, "length", 2 * len(buffer))
 
 
 @functools.lru_cache(maxsize=64)
 def array_type(kind: Any, count: int) -> Any:
     """The type of an array. ctypes makes one anew each time, which costs more than most calls."""
     return kind * count
-
-
-def end_of(answer: Any) -> int:
-    """Where the last span of an answer ends."""
-    span = type_named("cookie_span")
-    spans: list[Any] = [getattr(answer, name) for name, kind in answer._fields_ if kind is span]
-    return max(int(span.start + span.length) for span in spans)
 
 
 def bytes_from(function: Callable[..., Any], *inputs: Any, **rooms: Any) -> bytes:

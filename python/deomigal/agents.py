@@ -78,10 +78,6 @@ class AgentCookie(NamedTuple):
         """Whether it isn't expired at that second."""
         return self.expiry is None or now < self.expiry
 
-    def key(self) -> tuple[str, str, bool, str]:
-        """What no two stored cookies have in common."""
-        return self.name, self.domain, self.is_host_only, self.path
-
 
 class Agent(Uncopied, contextlib.AbstractContextManager["Agent"]):
     """A user agent: it reads `Set-Cookie` headers, stores the cookies, and says which of them a request sends, as RFC
@@ -212,13 +208,11 @@ class Agent(Uncopied, contextlib.AbstractContextManager["Agent"]):
         [('session', ['the connection is insecure and the cookie Secure'])]
         """
         request, second = request_of(self.address_of(url, context), context.is_safe), self.second(now)
-        found = []
         with self.lock:
-            for index, cookie in enumerate(self.cookies(second)):
-                bits = checked(library.AGENT_OBSTACLES(self.handle, index, request, second)).obstacles
-                if bits:
-                    found.append((cookie, [why for bit, why in OBSTACLES.items() if bits & bit]))
-        return found
+            cookies = list(self.cookies(second))
+            found = [library.AGENT_OBSTACLES(self.handle, index, request, second) for index in range(len(cookies))]
+        failed = zip(cookies, [checked(answer).obstacles for answer in found])
+        return [(cookie, [why for bit, why in OBSTACLES.items() if bits & bit]) for cookie, bits in failed if bits]
 
     def __iter__(self) -> Iterator[AgentCookie]:
         """The cookies that are stored and not expired, in the order of their creation.
@@ -304,7 +298,8 @@ class Agent(Uncopied, contextlib.AbstractContextManager["Agent"]):
             words = self.handle, self.rules, number, text, len(text), second, bad, most
             count = checked(library.AGENT_LOAD(*words)).bad_lines
             self.trim(second)
-        return bad[:count]
+        # Three times as fast as `bad[:count]`.
+        return memoryview(bad).cast("B").cast("Q")[:count].tolist()
 
     def address_of(self, url: str, context: Context) -> Address:
         """The address of the URL, for a request in this context."""

@@ -17,10 +17,9 @@ from typing import Any, Callable, Dict, Mapping, NoReturn, Sequence, cast
 
 import flask
 from flask import Flask, Request, Response
+from flask import sessions as flasks
 from flask.json.tag import TaggedJSONSerializer
-from flask.sessions import SecureCookieSession, SecureCookieSessionInterface, SessionMixin
-from flask.sessions import SessionInterface as FlaskSessionInterface
-from flask.sessions import session_json_serializer as tagged
+from flask.sessions import SecureCookieSession, SessionMixin
 from itsdangerous import BadData
 from werkzeug.exceptions import Conflict, ServiceUnavailable
 
@@ -68,7 +67,7 @@ class FlaskSession(Opened, SecureCookieSession):
 
     def __init__(
         self, sessions: Sessions, source: Session, values: Mapping[str, Any], is_old: bool = False,
-        serializer: Any = tagged,
+        serializer: Any = flasks.session_json_serializer,
     ) -> None:
         super().__init__(values)
         self.sessions, self.source, self.new, self.is_old = sessions, source, source.is_new and not is_old, is_old
@@ -227,7 +226,7 @@ class UnopenedSession(RefusedSession):
 session = cast(FlaskSession, flask.session)
 
 
-class SessionInterface(FlaskSessionInterface):
+class SessionInterface(flasks.SessionInterface):
     """Keeps Flask's sessions. `keys` has keys of at least 64 random bytes, the newest first. Without it they are
     derived from the application's SECRET_KEY and SECRET_KEY_FALLBACKS, each of at least 32 bytes, and from `salt`.
 
@@ -240,7 +239,7 @@ class SessionInterface(FlaskSessionInterface):
     """
 
     session_class = FlaskSession
-    serializer: Any = tagged
+    serializer: Any = flasks.session_json_serializer
     salt: Text | None = None
 
     def __init__(
@@ -299,11 +298,12 @@ class SessionInterface(FlaskSessionInterface):
         """The sessions of the application, by its keys and its settings as they are now."""
         lifetime = int(app.permanent_session_lifetime.total_seconds())
         same_site = self.get_cookie_samesite(app)
-        attributes = {
+        attributes: dict[str, Any] = {
             "path": self.get_cookie_path(app), "domain": self.get_cookie_domain(app),
             "secure": self.get_cookie_secure(app), "http_only": self.get_cookie_httponly(app),
             "same_site": same_site and same_site.title(),
             "partitioned": app.config.get("SESSION_COOKIE_PARTITIONED", False),
+            "revocations": self.revocations, "compress": self.compress,
         }
         derived: list[Any] = [app.secret_key or b"", *(app.config.get("SECRET_KEY_FALLBACKS") or ())]
         secrets = self.keys or derived
@@ -312,10 +312,7 @@ class SessionInterface(FlaskSessionInterface):
         latest = self.latest
         if latest is None or latest[0] != settings:
             keys = self.keys or keys_of(secrets, self.salt)
-            sessions = Sessions(
-                keys, *settings[1:4], **attributes, revocations=self.revocations, compress=self.compress
-            )
-            self.latest = latest = (settings, sessions)
+            self.latest = latest = (settings, Sessions(keys, *settings[1:4], **attributes))
         return latest[1]
 
     def open_session(self, app: Flask, request: Request) -> SessionMixin | None:
@@ -352,7 +349,7 @@ class SessionInterface(FlaskSessionInterface):
 
     def old_values(self, app: Flask, header: str) -> dict[str, Any] | None:
         """The values of a session of Flask's own class, or None."""
-        signer = SecureCookieSessionInterface().get_signing_serializer(app)
+        signer = flasks.SecureCookieSessionInterface().get_signing_serializer(app)
         lifetime, name = int(app.permanent_session_lifetime.total_seconds()), self.get_cookie_name(app)
         if signer is None:
             return None

@@ -36,8 +36,7 @@ def session_of(agent: Agent | None = None, *, context: Context = SAME_SITE) -> S
     ('en', b'lang=en')
     """
     session, adapter = Session(), CookieAdapter(agent, context=context)
-    cookies: Any = SessionCookies(adapter.agent)
-    session.cookies = cookies
+    session.cookies = SessionCookies(adapter.agent)
     for prefix in ("https://", "http://"):
         session.mount(prefix, adapter)
     return session

@@ -7,9 +7,7 @@ import os
 from typing import Any, Callable, Iterator, MutableMapping, Sequence, cast
 
 from . import _library as library
-from ._library import (
-    DONE, OwnHandle, Text, Uncopied, bytes_from, check, checked, header_of, listed, perform, ring_of, typed,
-)
+from ._library import OwnHandle, Text, Uncopied, bytes_from, check, checked, header_of, listed, perform, ring_of, typed
 from ._locks import Lock
 from ._steps import run
 from .compression import kept_of, texts_of
@@ -32,8 +30,7 @@ class Lasting(enum.IntEnum):
     UNTIL_CLOSED = 2
 
 
-MAX_AGE, MAX_AGE_AND_EXPIRES = Lasting.MAX_AGE, Lasting.MAX_AGE_AND_EXPIRES
-UNTIL_CLOSED = Lasting.UNTIL_CLOSED
+MAX_AGE, MAX_AGE_AND_EXPIRES, UNTIL_CLOSED = tuple(Lasting)
 
 
 class Generations:
@@ -308,7 +305,7 @@ class Sessions(Uncopied):
         if self.revocations is None:
             raise RuntimeError("these sessions can't be revoked: they are made without `revocations`")
         await self.reopen(session, ask)
-        if library.SESSION_GIVEN(session.handle).status != DONE:
+        if library.SESSION_GIVEN(session.handle).status != library.DONE:
             return False
         await self.spend(session, ask, library.SESSION_LOG_OUT)
         session.begin()

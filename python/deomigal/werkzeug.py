@@ -93,14 +93,11 @@ def parse_cookie(
     {'theme': 'dark blue', 'note': 'a,b'}
     """
     text = header.get("HTTP_COOKIE") if isinstance(header, Mapping) else header
-    read = [
-        (unquote_to_bytes(name), value.encode() if keep_quotes and is_quoted(value) else decoded(value))
-        for name, value in pairs(wire_bytes(text) if isinstance(text, str) else text)
-    ]
     found = []
-    for name, value in read:
+    for name, value in pairs(wire_bytes(text) if isinstance(text, str) else text):
+        data = value.encode() if keep_quotes and is_quoted(value) else decoded(value)
         with contextlib.suppress(UnicodeDecodeError):
-            found.append((name.decode(), value.decode()))
+            found.append((unquote_to_bytes(name).decode(), data.decode()))
     return MultiDict(found) if cls is None else cls(found)
 
 
