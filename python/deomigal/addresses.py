@@ -26,14 +26,15 @@ class Address(NamedTuple):
     is_top_level: bool = True
 
 
+@functools.lru_cache(maxsize=1024)
 def address_of(url: str, is_cross_site: bool = False, is_localhost_secure: bool = True) -> Address:
     """The address of a URL, for a request of its own site, or for one that another site's page made, as a frame does.
-    Raises `NoUrl` if the URL isn't one of http or https with a host.
-    """
-    host, path, is_address, is_https, is_local = read_url(url)
+    Raises `NoUrl` if the URL isn't one of http or https with a host."""
+    found, texts = answer_and_bytes(READ_URL, typed(url, str, "a URL is a str"))
+    host, path = (bytes_at(texts, span).decode() for span in (checked(found).host, found.path))
     # Browsers count a connection that doesn't leave the machine as secure.
-    is_secure = is_https or is_local and is_localhost_secure
-    return Address(host, path, is_address, is_secure, not is_cross_site, not is_cross_site)
+    is_secure = found.is_https or found.is_local and is_localhost_secure
+    return Address(host, path, found.is_address, is_secure, not is_cross_site, not is_cross_site)
 
 
 def address_at(scheme: str, host: str, path: str, is_localhost_secure: bool = True) -> Address:
@@ -56,12 +57,3 @@ def address_at(scheme: str, host: str, path: str, is_localhost_secure: bool = Tr
     if address.is_address and address.host != host and not name.startswith("["):
         raise NoUrl("the host isn't the same to all readers")
     return address
-
-
-@functools.lru_cache(maxsize=1024)
-def read_url(url: str) -> tuple[str, str, bool, bool, bool]:
-    """The host and the path of a URL, whether the host is an IP address, whether the scheme is https, and whether the
-    host is this machine."""
-    reading, texts = answer_and_bytes(READ_URL, typed(url, str, "a URL is a str"))
-    host, path = (bytes_at(texts, span).decode() for span in (checked(reading).host, reading.path))
-    return host, path, reading.is_address, reading.is_https, reading.is_local

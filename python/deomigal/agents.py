@@ -287,7 +287,10 @@ class Agent(Uncopied, contextlib.AbstractContextManager["Agent"]):
         hold no cookie, or one that no user agent could have stored. What is expired is left out, and none lasts for
         more than 400 days. Without `form` the file's first byte says which form it has. Raises `ValueError` if the file
         has more than 64 MiB, and `OSError` if it is no regular file."""
-        with open(path, "rb", opener=file_opener) as file:
+        # To open a FIFO so doesn't wait for somebody who writes.
+        with open(path, "rb", opener=lambda name, flags: os.open(name, flags | os.O_NONBLOCK)) as file:
+            if not stat.S_ISREG(os.fstat(file.fileno()).st_mode):
+                raise OSError(errno.EINVAL, "no regular file", path)
             text = file.read(MOST + 1)
         if len(text) > MOST:
             raise ValueError(f"the file has more than {MOST} bytes")
@@ -329,15 +332,6 @@ def number_of(form: str) -> int:
     if form not in FORMS:
         raise ValueError(f"a form is {JSON!r} or {NETSCAPE!r}")
     return FORMS[form]
-
-
-def file_opener(path: str, flags: int) -> int:
-    """Opens a regular file. Of a FIFO it doesn't wait for somebody who writes."""
-    handle = os.open(path, flags | os.O_NONBLOCK)
-    if not stat.S_ISREG(os.fstat(handle).st_mode):
-        os.close(handle)
-        raise OSError(errno.EINVAL, "no regular file", path)
-    return handle
 
 
 def replace(path: str, text: bytes) -> None:

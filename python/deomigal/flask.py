@@ -403,8 +403,9 @@ class SessionInterface(flasks.SessionInterface):
             is_dropped = session.modified and not session.showed_revoked
             return session.sessions.end(session.source.now) if is_dropped else None
         # What a check has refused isn't saved.
-        is_refused = session.saved == (session.wanted(), None)
-        return session.save() if self.should_set_cookie(app, session) and not is_refused else None
+        (saved, text), is_wanted = session.saved, self.should_set_cookie(app, session)
+        is_refused = saved and text is None and saved == session.wanted()
+        return session.save() if is_wanted and not is_refused else None
 
     def renew_at_login(self, app: Flask, **_: Any) -> None:
         """Starts the session anew at a login, if this keeps the application's sessions."""

@@ -6,7 +6,7 @@ import datetime
 from typing import Iterator, Mapping
 
 from . import _library as library
-from ._library import DONE, SHORT, OwnHandle, Text, Uncopied, bytes_from, bytes_of, check, checked, header_of, listed, seeds
+from ._library import DONE, SHORT, OwnHandle, Text, Uncopied, bytes_from, bytes_of, check, header_of, listed, seeds
 from .dates import print_date
 from .errors import NotFound
 
@@ -29,6 +29,9 @@ class Jar(Uncopied, Mapping[str, str], contextlib.AbstractContextManager["Jar"])
         handle, originals = library.Jar(), header_of(header)
         self.handle: OwnHandle = handle
         check(library.JAR_NEW(*seeds(), handle) or library.JAR_ADD_ORIGINALS(handle, originals, len(originals)))
+
+    # Two jars with the same cookies aren't the same.
+    __eq__, __hash__ = object.__eq__, object.__hash__
 
     def __exit__(self, *_: object) -> None:
         self.close()

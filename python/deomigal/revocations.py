@@ -31,6 +31,8 @@ LONGEST = 0.05
 PATH_ONLY = getattr(os, "O_PATH", 0o10000000)
 # How many ids an SQLite statement looks up at most.
 AT_ONCE = 500
+# Connections that a fork carried along.
+LEFT: list[sqlite3.Connection] = []
 # How many seconds longer Redis keeps a key, whose clock may be ahead.
 SLACK = 3600
 
@@ -174,10 +176,6 @@ class Connection(Lock):
                 self.opened = None
 
     before_fork = close
-
-
-# Connections that a fork carried along.
-LEFT: list[sqlite3.Connection] = []
 
 
 def connect(path: str, timeout: float, create: bool = False) -> sqlite3.Connection:
