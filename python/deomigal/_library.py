@@ -107,11 +107,6 @@ class OwnHandle(Handle):
         if self.is_open:
             self.free(self)
 
-    def close(self) -> None:
-        """Frees what it has."""
-        with self.lock:
-            self.free(self)
-
     def perform(self, function: Callable[..., Any], *inputs: Any) -> None:
         """Makes a call with the handle that returns no text."""
         with self.lock:
@@ -137,10 +132,10 @@ class Uncopied:
         raise TypeError(f"a {type(self).__name__} can't be copied or pickled: make another one")
 
 
-def typed(value: Any, kinds: Any, rule: str) -> Any:
-    """The value, or `TypeError` with the rule if it has another type."""
+def typed(value: Any, kinds: Any, rule: str, error: type[Exception] = TypeError) -> Any:
+    """The value, or an error with the rule if it has another type, whose name is put in for `{}`."""
     if not isinstance(value, kinds):
-        raise TypeError(rule)
+        raise error(rule.format(type(value).__name__))
     return value
 
 
@@ -153,9 +148,7 @@ def bytes_of(text: str | bytes) -> bytes:
 
 def key_of(key: bytes, rule: str = "a key is bytes") -> bytes:
     """The key's bytes, or `TypeError` with the rule. `bytes` of a number would be as many zeros."""
-    if not isinstance(key, (bytes, bytearray, memoryview)):
-        raise TypeError(f"{rule}, and not of the type {type(key).__name__}")
-    return bytes(key)
+    return bytes(typed(key, (bytes, bytearray, memoryview), rule + ", and not of the type {}"))
 
 
 def ring_of(keys: Sequence[bytes]) -> bytes:
@@ -191,9 +184,9 @@ def arguments_of(function: Any, inputs: tuple[Any, ...]) -> list[Any]:
     return arguments
 
 
-def check(status: int) -> None:
-    """Raises what a status refuses."""
-    if status != DONE:
+def check(status: int | None) -> None:
+    """Raises what a status refuses. A call that never refuses has none."""
+    if status:
         raise error_of(status)
 
 

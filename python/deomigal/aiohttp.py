@@ -72,8 +72,12 @@ class ReadCookies(Cookies):
 class CookieJar(AbstractCookieJar):
     """The cookies of an agent, by default a new one, as aiohttp's. Pass it with the two classes: see `cookies_of`.
 
-    `context` says how its requests come about, by default same-site.
+    `context` says how its requests come about, by default same-site. `unsafe` is true: a host that is an IP address has
+    cookies too (RFC 6265bis, Domain Matching). So is `quote_cookie`, as by default in aiohttp: of the caller's own
+    `cookies` odd values are sent in quotes.
     """
+
+    unsafe = quote_cookie = True
 
     def __init__(self, agent: Agent | None = None, *, context: Context = SAME_SITE) -> None:
         super().__init__()
@@ -122,16 +126,6 @@ class CookieJar(AbstractCookieJar):
     def clear_domain(self, domain: str) -> None:
         """Removes the cookies of the domain and of those below it."""
         self.clear(lambda cookie: f".{cookie['domain']}".endswith(f".{domain}"))
-
-    @property
-    def unsafe(self) -> bool:
-        """True: a host that is an IP address has cookies too (RFC 6265bis, Domain Matching)."""
-        return True
-
-    @property
-    def quote_cookie(self) -> bool:
-        """True, as by default in aiohttp: of the caller's own `cookies` odd values are sent in quotes."""
-        return True
 
     @property
     def cookies(self) -> Mapping[tuple[str, str], BaseCookie[str]]:

@@ -30,8 +30,6 @@ from .sessions import Generations, Session, Sessions
 from .values import FAILURES, Failure, answer_to, note_unsaved, pack, unpack
 from .wsgi import header_in
 
-SALT = "deomigal.django"
-
 
 @functools.lru_cache(maxsize=None)
 def site() -> Sessions:
@@ -49,7 +47,7 @@ def site() -> Sessions:
         "revocations": getattr(settings, "DEOMIGAL_REVOCATIONS", None),
         "compress": bool(getattr(settings, "DEOMIGAL_COMPRESS", False)),
     }
-    return Sessions(keys_of(secrets, SALT), settings.SESSION_COOKIE_NAME, lifetime, lifetime, **options)
+    return Sessions(keys_of(secrets, "deomigal.django"), settings.SESSION_COOKIE_NAME, lifetime, lifetime, **options)
 
 
 def session_of(sessions: Sessions, key: str | None, header: bytes | None = None) -> Session:

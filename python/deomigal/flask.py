@@ -10,6 +10,7 @@ from __future__ import annotations
 
 import contextlib
 import copy
+import functools
 import json
 import marshal
 import time
@@ -175,11 +176,8 @@ def name_of(name: Any) -> str:
     >>> name_of("user"), name_of(None), name_of(3)
     ('user', 'null', '3')
     """
-    if isinstance(name, str):
-        return name
-    if name is None or isinstance(name, (int, float)):
-        return CODER.encode(name)
-    raise TypeError(f"a name is a str, a number, a bool or None, and not of the type {type(name).__name__}")
+    rule = "a name is a str, a number, a bool or None, and not of the type {}"
+    return name if isinstance(name, str) else CODER.encode(typed(name, (int, float, type(None)), rule))
 
 
 def without_escapes(text: str) -> str:
@@ -271,17 +269,14 @@ class SessionInterface(flasks.SessionInterface):
         app.before_request(self.refuse_unopened)
         # Flask offers nothing between the view and the functions of `after_request`, and what these or `save_session`
         # raise no `errorhandler(TooLarge)` answers. So the call that makes the view's answer is replaced.
-        setattr(app, "dispatch_request", self.with_check(app, app.dispatch_request))
+        setattr(app, "dispatch_request", functools.partial(self.checked, app, app.dispatch_request))
 
-    def with_check(self, app: Flask, dispatch: Callable[..., Any]) -> Callable[..., Any]:
-        """The call of a view, which then checks the session, so that `errorhandler(TooLarge)` answers."""
-        def dispatch_request(*arguments: Any) -> Any:
-            answer, opened = dispatch(*arguments), self.opened_in(app)
-            if opened is not None:
-                opened.check()
-            return answer
-
-        return dispatch_request
+    def checked(self, app: Flask, dispatch: Callable[..., Any], *arguments: Any) -> Any:
+        """Calls a view, and then checks the session, so that `errorhandler(TooLarge)` answers."""
+        answer, opened = dispatch(*arguments), self.opened_in(app)
+        if opened is not None:
+            opened.check()
+        return answer
 
     def opened_in(self, app: Flask) -> FlaskSession | None:
         """The session that was opened for the request, if this keeps the application's sessions."""

@@ -75,7 +75,7 @@ class Jar(Uncopied, Mapping[str, str], contextlib.AbstractContextManager["Jar"])
 
     def close(self) -> None:
         """Frees the jar. All other calls raise `NoJar` from then on."""
-        self.handle.close()
+        self.handle.perform(library.JAR_FREE)
 
 
 def run(moment: str | datetime.datetime, text: str) -> str:

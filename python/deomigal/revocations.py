@@ -94,9 +94,7 @@ def was_revoked(found: Any) -> bool:
 
 def id_of(id: bytes) -> bytes:
     """The id's bytes, or an error if it isn't an id."""
-    if not isinstance(id, bytes):
-        raise TypeError(f"an id is bytes, and not of the type {type(id).__name__}")
-    if len(id) != ID_LENGTH:
+    if len(typed(id, bytes, "an id is bytes, and not of the type {}")) != ID_LENGTH:
         raise ValueError(f"an id has {ID_LENGTH} bytes, and not {len(id)}")
     return id
 

@@ -18,6 +18,7 @@ from .revocations import ID_LENGTH, AnyRevocations, Ask, ask, ask_async, was_rev
 
 # Room for a cookie that a browser stores, and for its texts.
 ROOM = 10000
+A_LOOK_UP = bool, "a look-up returns a bool, and not a value of the type {}", RevocationsError
 
 
 class Lasting(enum.IntEnum):
@@ -130,9 +131,8 @@ class Session(Generations, MutableMapping[str, str]):
         return self.texts[name]
 
     def __setitem__(self, name: str, text: str) -> None:
-        if not isinstance(name, str) or not isinstance(text, str):
-            raise TypeError("a session has texts by name, each of them a str")
-        self.texts[name] = text
+        rule = "a session has texts by name, each of them a str"
+        self.texts[typed(name, str, rule)] = typed(text, str, rule)
 
     def __delitem__(self, name: str) -> None:
         del self.texts[name]
@@ -272,9 +272,9 @@ class Sessions(Uncopied):
             found = await ask(self.revocations, "are_revoked", each)
             if not isinstance(found, list) or len(found) != len(each):
                 raise RevocationsError("are_revoked returns a list with a bool for each id")
-            return b"".join(id for id, is_revoked in zip(each, found) if is_true(is_revoked))
+            return b"".join(id for id, is_revoked in zip(each, found) if typed(is_revoked, *A_LOOK_UP))
         for id in each:
-            if not is_true(await ask(self.revocations, "is_revoked", id)):
+            if not typed(await ask(self.revocations, "is_revoked", id), *A_LOOK_UP):
                 break
             revoked += id
         return revoked
@@ -445,13 +445,6 @@ class Sessions(Uncopied):
         'session=; HttpOnly; SameSite=Lax; Secure; Path=/; Max-Age=0; Expires=Tue, 21 Oct 2014 07:28:00 GMT'
         """
         return self.handle.text(library.SESSION_END, whole_second(now)).decode()
-
-
-def is_true(found: Any) -> bool:
-    """What a look-up returned. Raises `RevocationsError` if it isn't a bool."""
-    if not isinstance(found, bool):
-        raise RevocationsError(f"a look-up returns a bool, and not a value of the type {type(found).__name__}")
-    return found
 
 
 def generation_of(number: int) -> int:

@@ -236,12 +236,14 @@ class Middleware:
     def session_from(self, source: Session) -> CookieSession:
         """The session of values in the session that was opened, or a new one."""
         if not source.is_new:
-            # Another program may have saved it, under the same key.
-            with contextlib.suppress(ValueError):
+            try:
                 data = unpack(source.texts)
                 values = json.loads(data)
                 if isinstance(values, dict):
                     return CookieSession(self.sessions, source, values, data)
+            except ValueError:
+                # Another program saved it, under the same key.
+                pass
             source = self.sessions.start(source.now)
         return CookieSession(self.sessions, source, {}, EMPTY)
 
