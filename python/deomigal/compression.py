@@ -21,7 +21,6 @@ MOST_BYTES = 65536
 # ASCII without the marks. Each character is one byte of the sealed text.
 DIGITS = "".join(chr(code) for code in range(128) if chr(code) not in MARKS)
 BASE = len(DIGITS)
-VALUES = {digit: value for value, digit in enumerate(DIGITS)}
 # As many bytes as fit into that number of digits: 256^13 is less than 124^15.
 BYTES, PLACES = 13, 15
 
@@ -100,8 +99,8 @@ def bytes_of_digits(digits: str) -> bytes:
     data = b""
     try:
         for block in (digits[start : start + PLACES] for start in range(0, len(digits), PLACES)):
-            number = sum(VALUES[digit] * BASE**place for place, digit in enumerate(block))
+            number = sum(DIGITS.index(digit) * BASE**place for place, digit in enumerate(block))
             data += number.to_bytes(len(block) * BYTES // PLACES, "little")
-    except (KeyError, OverflowError) as error:
+    except (ValueError, OverflowError) as error:
         raise ValueError("these aren't digits of base 124") from error
     return data

@@ -92,8 +92,7 @@ class NotUtf8(CookieError): ...
 class Replaces(CookieError): ...
 
 
-NAMED = {error.__name__: error for error in CookieError.__subclasses__()}
-ERRORS = {number: NAMED[name] for number, name, _ in STATUSES}
+ERRORS: dict[int, type[CookieError]] = {number: globals()[name] for number, name, _ in STATUSES}
 for _number, _, _meaning in STATUSES:
     ERRORS[_number].status = _number
     ERRORS[_number].__doc__ = ERRORS[_number].__doc__ or f"{_meaning[0].upper()}{_meaning[1:]}."
