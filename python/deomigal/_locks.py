@@ -11,6 +11,10 @@ class Lock(type(threading.RLock())):  # type: ignore[misc]
     """Lets one thread in at a time. A thread that forks the process first waits until no other is in. So a child finds
     what the lock guards whole, and the lock free."""
 
+    def __new__(cls, *_: object) -> Any:
+        # PyPy's takes no arguments.
+        return super().__new__(cls)
+
     def __init__(self) -> None:
         super().__init__()
         with LOCKS_LOCK:
