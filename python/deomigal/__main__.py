@@ -12,8 +12,7 @@ from .explain import report, suffix_list
 
 def date(text: str) -> datetime.datetime:
     """The date, for the command line."""
-    moment = read_date(text.encode())
-    if moment is None or not 1970 <= moment.year <= 9998:
+    if (moment := read_date(text.encode())) is None or not 1970 <= moment.year <= 9998:
         raise argparse.ArgumentTypeError("no date of the years 1970 to 9998")
     return moment
 

@@ -104,8 +104,7 @@ class CookieJar(AbstractCookieJar):
             parsed[name] = value
             domain = parsed[name]["domain"].lstrip(".")
             url = response_url if response_url.host or not domain else URL.build(scheme="https", host=domain)
-            address = self.address_of(url)
-            if address is None:
+            if (address := self.address_of(url)) is None:
                 raise ValueError(f"the cookie {name!r} has no host: pass the URL of its response")
             self.agent.read_at(address, header_bytes(parsed[name].OutputString()))
 
@@ -157,8 +156,7 @@ class ClientRequest(aiohttp.ClientRequest):
         if not isinstance(cookies, SentCookies):
             super().update_cookies(cookies)
             return
-        text = cookies.text(self.method, self.headers.pop("Cookie", None))
-        if text:
+        if text := cookies.text(self.method, self.headers.pop("Cookie", None)):
             self.headers["Cookie"] = text
 
 

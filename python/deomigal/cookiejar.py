@@ -46,8 +46,7 @@ class CookieJar(http.cookiejar.CookieJar):
         """Sets the request's `Cookie` header, unless it has one."""
         if not request.has_header("Cookie"):
             method = request.get_method() if hasattr(request, "get_method") else "GET"
-            header = self.agent.header_for(self.address_of(request), method, self.context)
-            if header:
+            if header := self.agent.header_for(self.address_of(request), method, self.context):
                 # http.client prints a character as the byte of Latin-1.
                 request.add_unredirected_header("Cookie", header.decode("latin-1"))
 
@@ -102,8 +101,7 @@ class CookieJar(http.cookiejar.CookieJar):
 
     def set_cookie_if_ok(self, cookie: http.cookiejar.Cookie, request: Any) -> None:
         """Stores the cookie if the response to the request could set it."""
-        address = self.address_of(request)
-        if address is not None:
+        if (address := self.address_of(request)) is not None:
             self.agent.read_at(address, text_of(cookie, self.agent.clock()))
 
     def clear(self, domain: str | None = None, path: str | None = None, name: str | None = None) -> None:
@@ -207,8 +205,7 @@ def text_of(cookie: http.cookiejar.Cookie, now: float) -> bytes:
         pieces.append(f"Domain={without_local(cookie.domain)}")
     if cookie.expires is not None:
         pieces.append(f"Max-Age={max(cookie.expires - int(now), 0)}")
-    same_site = cookie.get_nonstandard_attr("SameSite")
-    if same_site in RULES[1:]:
+    if (same_site := cookie.get_nonstandard_attr("SameSite")) in RULES[1:]:
         pieces.append(f"SameSite={same_site}")
     flags = ["Secure"] * bool(cookie.secure) + ["HttpOnly"] * cookie.has_nonstandard_attr("HttpOnly")
     return header_bytes("; ".join(pieces + flags))

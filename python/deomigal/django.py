@@ -196,8 +196,7 @@ class SessionMiddleware(DjangoMiddleware):
         if isinstance(response, Unavailable):
             return response
         session: Any = getattr(request, "session", None)
-        failure = getattr(session, "failure", None)
-        if failure:
+        if failure := getattr(session, "failure", None):
             return Unavailable(failure)
         is_old = getattr(session, "showed_revoked", False)
         if not is_old or not session.shows_revoked and not session.is_empty():
@@ -214,9 +213,7 @@ class Unavailable(HttpResponse):
 
     def __init__(self, error: Failure) -> None:
         status, fields, page = answer_to(error)
-        super().__init__(page, status=int(status[:3]))
-        for name, value in fields:
-            self[name] = value
+        super().__init__(page, status=int(status[:3]), headers=dict(fields))
 
 
 def cycle_at_login(request: Any, **_: Any) -> None:

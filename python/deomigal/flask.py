@@ -158,9 +158,6 @@ class FlaskSession(Opened, SecureCookieSession):
         """Whether it was changed, or a value within it."""
         return self.modified or self.texts() != self.opened
 
-    def __repr__(self) -> str:
-        return f"<FlaskSession {list(self.keys())!r}>"
-
 
 def mark_of(value: Any) -> Text | None:
     """The same for a value as long as it is the same, or None if it has other types than Python's own."""
@@ -404,14 +401,12 @@ class SessionInterface(flasks.SessionInterface):
 
     def renew_at_login(self, app: Flask, **_: Any) -> None:
         """Starts the session anew at a login, if this keeps the application's sessions."""
-        opened = self.opened_in(app)
-        if opened is not None:
+        if (opened := self.opened_in(app)) is not None:
             opened.renew()
 
     def end_at_logout(self, app: Flask, **_: Any) -> None:
         """Revokes the session at a logout, if this keeps the application's sessions and which are revoked."""
-        opened = self.opened_in(app)
-        if opened is not None and self.revocations is not None:
+        if (opened := self.opened_in(app)) is not None and self.revocations is not None:
             opened.end()
 
 

@@ -99,6 +99,9 @@ class Opened(Generations):
         self.source.renew()
         self.modified = self.accessed = True
 
+    def __repr__(self: Any) -> str:
+        return f"<{type(self).__name__} {list(dict.keys(self))!r}>"
+
     def clear(self: Any) -> None:
         """Drops the values, and starts it anew. A copy of its cookie stays open: at a logout call `revoke`."""
         super().clear()  # type: ignore[misc]
@@ -157,9 +160,6 @@ class CookieSession(Opened, Mapped):
         self.accessed = True
         return dict, (dict(dict.items(self)),)
 
-    def __repr__(self) -> str:
-        return f"<CookieSession {list(dict.keys(self))!r}>"
-
     @property
     def is_new(self) -> bool:
         """Whether the request has no open session."""
@@ -182,8 +182,7 @@ class CookieSession(Opened, Mapped):
 
     def check(self) -> None:
         """Raises `TooLarge` now, and not where the response starts, if no browser would store the session."""
-        data = self.json()
-        if data not in (self.opened, EMPTY):
+        if (data := self.json()) not in (self.opened, EMPTY):
             self.source.texts = pack(data)
             self.sessions.check(self.source)
 

@@ -73,8 +73,7 @@ def expiry(expires: Expiry, age: int | None) -> datetime.datetime | None:
         return date_at(max(expires, 0))
     if not isinstance(expires, str):
         return expires
-    moment = read_date(expires)
-    if moment is None:
+    if (moment := read_date(expires)) is None:
         raise error_of(NoDate.status)
     return moment
 
@@ -95,21 +94,17 @@ def parse_cookie(
     text = header.get("HTTP_COOKIE") if isinstance(header, Mapping) else header
     found = []
     for name, value in pairs(wire_bytes(text) if isinstance(text, str) else text):
-        data = value.encode() if keep_quotes and is_quoted(value) else decoded(value)
         with contextlib.suppress(UnicodeDecodeError):
-            found.append((unquote_to_bytes(name).decode(), data.decode()))
+            found.append((unquote_to_bytes(name).decode(), decoded(value, keep_quotes).decode()))
     return MultiDict(found) if cls is None else cls(found)
 
 
-def is_quoted(value: str) -> bool:
-    """Whether the value is in quotes."""
-    return len(value) >= 2 and value[0] == value[-1] == '"'
-
-
-def decoded(value: str) -> bytes:
-    """The bytes of a value, without its quotes and escapes."""
-    if not is_quoted(value):
+def decoded(value: str, keep_quotes: bool) -> bytes:
+    """The bytes of a value, without its escapes and its quotes, unless these are to be kept."""
+    if len(value) < 2 or not value[0] == value[-1] == '"':
         return unquote_to_bytes(value)
+    if keep_quotes:
+        return value.encode()
     # After a backslash is the number of a byte, or the byte.
     text, escaped = value[1:-1].encode(), rb"(?s)\\(?:([0-3][0-7]{2})|(.))"
     return re.sub(escaped, lambda found: found[2] or bytes([int(found[1], 8)]), text)
