@@ -180,8 +180,7 @@ class Agent(Uncopied, contextlib.AbstractContextManager["Agent"]):
         return self.header_at(self.address_of(url, context), context.is_safe, self.second(now))
 
     def header_at(
-        self, address: Address, is_safe: bool = True, second: int | None = None,
-        call: Callable[..., Any] = library.AGENT_RETRIEVE,
+        self, address: Address, is_safe: bool = True, second: int | None = None, call: Any = library.AGENT_RETRIEVE
     ) -> bytes:
         """The value of the `Cookie` header of a request to the address. The drop-ins call it."""
         second = self.second(None) if second is None else whole_second(second)

@@ -35,11 +35,8 @@ def kept_of(texts: dict[str, str], compress: bool) -> dict[str, str]:
     """
     # What would be read as a compressed session is kept whole in one.
     is_taken = list(texts) == [COMPRESSED]
-    if not (compress or is_taken):
-        return texts
-    form = escaped_form(texts)
     # No browser stores more bytes.
-    if len(form) > MOST_BYTES:
+    if not (compress or is_taken) or len(form := escaped_form(texts)) > MOST_BYTES:
         return texts
     compressed = {COMPRESSED: digits_of(deflate(form, 9 if compress else 0))}
     return compressed if is_taken or len(escaped_form(compressed)) < len(form) else texts

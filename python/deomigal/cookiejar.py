@@ -92,11 +92,9 @@ class CookieJar(http.cookiejar.CookieJar):
         >>> other.agent.header("https://shop.example/")
         b'lang=en'
         """
-        host = without_local(cookie.domain).lstrip(".")
-        if not host:
+        if not (host := without_local(cookie.domain).lstrip(".")):
             raise ValueError(f"the cookie {cookie.name!r} has no domain: RFC 6265bis knows no cookie of all hosts")
-        refusal = self.agent.read_at(address_at("https", host, "/"), text_of(cookie, self.agent.clock()))
-        if refusal is not None:
+        if refusal := self.agent.read_at(address_at("https", host, "/"), text_of(cookie, self.agent.clock())):
             raise ValueError(f"the cookie {cookie.name!r} isn't stored: {refusal.sentence}")
 
     def set_cookie_if_ok(self, cookie: http.cookiejar.Cookie, request: Any) -> None:
@@ -113,8 +111,7 @@ class CookieJar(http.cookiejar.CookieJar):
             return
         named = [cookie for cookie in self.agent if path in (None, cookie.path) and name in (None, cookie.name)]
         found = [cookie for cookie in named if domain_of(cookie) == domain]
-        found = found or [cookie for cookie in named if domain_of(cookie) == f".{domain}"]
-        if not found:
+        if not (found := found or [cookie for cookie in named if domain_of(cookie) == f".{domain}"]):
             raise KeyError(name or path or domain)
         for cookie in found:
             self.agent.remove(cookie)

@@ -38,12 +38,11 @@ def site() -> Sessions:
     SESSION_COOKIE_AGE. DEOMIGAL_REVOCATIONS keeps which sessions are revoked. For DEOMIGAL_COMPRESS see `Sessions`."""
     secrets = (settings.SECRET_KEY, *(getattr(settings, "SECRET_KEY_FALLBACKS", None) or ()))
     lifetime = getattr(settings, "DEOMIGAL_LIFETIME", None) or settings.SESSION_COOKIE_AGE
-    same_site = settings.SESSION_COOKIE_SAMESITE
     # Django prints the attributes. They count for the prefix of the name.
     options: dict[str, Any] = {
         "path": settings.SESSION_COOKIE_PATH, "domain": settings.SESSION_COOKIE_DOMAIN,
         "secure": bool(settings.SESSION_COOKIE_SECURE), "http_only": bool(settings.SESSION_COOKIE_HTTPONLY),
-        "same_site": same_site.title() if same_site else None,
+        "same_site": (settings.SESSION_COOKIE_SAMESITE or "").title() or None,
         "revocations": getattr(settings, "DEOMIGAL_REVOCATIONS", None),
         "compress": bool(getattr(settings, "DEOMIGAL_COMPRESS", False)),
     }
@@ -232,7 +231,6 @@ def note_failure(request: Any, **_: Any) -> None:
 
 user_logged_in.connect(cycle_at_login)
 got_request_exception.connect(note_failure)
-# Then they are made anew, by other settings.
 setting_changed.connect(lambda **_: site.cache_clear(), weak=False)
 
 if settings.configured:

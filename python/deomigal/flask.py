@@ -140,8 +140,7 @@ class FlaskSession(Opened, SecureCookieSession):
     def texts(self) -> dict[str, str]:
         """The texts of its values. What wasn't used has the texts that it was opened from."""
         if self.modified or self.accessed or self.is_old:
-            items = dict.items(self)
-            return {name if type(name) is str else name_of(name): self.text_of(name, value) for name, value in items}
+            return {name_of(name): self.text_of(name, value) for name, value in dict.items(self)}
         return self.opened
 
     def text_of(self, name: Any, value: Any) -> str:
@@ -301,8 +300,7 @@ class SessionInterface(flasks.SessionInterface):
         secrets = self.keys or derived
         idle = lifetime if self.idle is None else self.idle
         settings = (secrets, self.get_cookie_name(app), lifetime, idle, attributes)
-        latest = self.latest
-        if latest is None or latest[0] != settings:
+        if (latest := self.latest) is None or latest[0] != settings:
             keys = self.keys or keys_of(secrets, self.salt)
             self.latest = latest = (settings, Sessions(keys, *settings[1:4], **attributes))
         return latest[1]

@@ -84,6 +84,5 @@ def run(moment: str | datetime.datetime, text: str) -> str:
     >>> run("Wed, 21 Oct 2015 07:28:00 GMT", "name=value\\nadd a=1\\n")
     'Set-Cookie: a=1\\nCookie: a=1; name=value\\n'
     """
-    if isinstance(moment, datetime.datetime):
-        moment = print_date(moment)
+    moment = print_date(moment) if isinstance(moment, datetime.datetime) else moment
     return bytes_from(library.RUN, *seeds(), moment, text).decode()

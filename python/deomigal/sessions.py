@@ -203,7 +203,8 @@ class Sessions(Uncopied):
         # For the handle and the buffer, which has room for the cookie's attributes too.
         self.handle.lock = self.lock = Lock()
         self.buffer: Any = ctypes.create_string_buffer(ROOM + len(cookie))
-        perform(library.SESSIONS_NEW, library.SessionSettings(ring, len(ring), cookie, len(cookie), lifetime, idle), self.handle)
+        settings = library.SessionSettings(ring, len(ring), cookie, len(cookie), lifetime, idle)
+        perform(library.SESSIONS_NEW, settings, self.handle)
         self.save(self.start())
 
     def start(self, now: float | None = None) -> Session:
@@ -383,7 +384,6 @@ class Sessions(Uncopied):
         try:
             texts = kept_of(session.texts, self.compress)
         except UnicodeEncodeError:
-            # A lone surrogate.
             raise error_of(NotUtf8.status) from None
         kept, session.known, session.kept = session.kept, None, None
         if kept is None:
@@ -407,8 +407,9 @@ class Sessions(Uncopied):
     def check(self, session: Session) -> None:
         """Raises what `save` raises for the session as it is now, but asks no store and revokes nothing."""
         run(self.prepare(session, ask))
+        words = MAX_AGE, os.urandom(12), 12, session.now, None, 0
         with self.lock:
-            answer = library.SESSION_SAVE(self.handle, session.handle, MAX_AGE, os.urandom(12), 12, session.now, None, 0)
+            answer = library.SESSION_SAVE(self.handle, session.handle, *words)
         # Without room nothing is given.
         if answer.status not in (BufferTooShort.status, Replaces.status):
             raise error_of(answer.status, answer.length)

@@ -15,7 +15,7 @@ from urllib.parse import quote, unquote_to_bytes
 
 from werkzeug.datastructures import MultiDict
 
-from ._library import Text, typed, wire_bytes
+from ._library import DONE, Text, check, typed, wire_bytes
 from .cookies import pairs, print_cookie
 from .dates import date_at, read_date
 from .errors import BadAttribute, EmptyName, NoDate, error_of
@@ -43,10 +43,7 @@ def dump_cookie(
     >>> dump_cookie("theme", "dark blue", max_age=60, sync_expires=False, httponly=True, samesite="lax")
     'theme=dark%20blue; Max-Age=60; HttpOnly; Path=/; SameSite=Lax'
     """
-    if not key:
-        raise error_of(EmptyName.status)
-    if samesite == "":
-        raise error_of(BadAttribute.status)
+    check(EmptyName.status if not key else BadAttribute.status if samesite == "" else DONE)
     if domain:
         domain = typed(domain, str, "a domain is a str").partition(":")[0].lstrip(".").encode("idna").decode("ascii")
     age = int(max_age.total_seconds()) if isinstance(max_age, datetime.timedelta) else max_age
