@@ -96,7 +96,7 @@ class FlaskSession(Opened, SecureCookieSession):
         browser drop its cookie. Returns whether the browser had something. Raises what `Sessions.revoke` does."""
         is_ended = self.end()
         is_forgotten = self.get(REMEMBER) == "clear"
-        SecureCookieSession.clear(self)
+        super(Opened, self).clear()
         if is_forgotten:
             # So Flask-Login drops the cookie that would log the user in again.
             self[REMEMBER] = "clear"

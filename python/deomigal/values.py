@@ -176,7 +176,7 @@ class CookieSession(Opened, Mapped):
 
     def drop_values(self, is_ended: bool) -> bool:
         """Drops the values after a logout. Returns whether the browser had a session."""
-        Mapped.clear(self)  # type: ignore[arg-type]
+        super(Opened, self).clear()
         self.is_ended = self.is_ended or is_ended
         return is_ended
 
