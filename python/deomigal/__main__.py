@@ -12,18 +12,9 @@ from .explain import report, suffix_list
 
 def date(text: str) -> datetime.datetime:
     """The date, for the command line."""
-    moment = read_date(text.encode())
-    if moment is None or not 1970 <= moment.year <= 9998:
+    if (moment := read_date(text.encode())) is None or not 1970 <= moment.year <= 9998:
         raise argparse.ArgumentTypeError("no date of the years 1970 to 9998")
     return moment
-
-
-def explain(arguments: argparse.Namespace) -> None:
-    """Prints what a browser makes of the lines of standard input."""
-    out, path = sys.stdout.buffer, arguments.suffixes
-    title, suffixes = (path, pathlib.Path(path).read_bytes()) if path else suffix_list()
-    out.write(f"public suffixes: {title}\n".encode())
-    out.write(report(arguments.url, sys.stdin.buffer.read(), suffixes, arguments.cross_site, arguments.now))
 
 
 def main() -> None:
@@ -37,8 +28,11 @@ def main() -> None:
     command.add_argument("--suffixes", metavar="FILE", help="the list of public suffixes")
     command.add_argument("--cross-site", action="store_true", help="another site's page made the request")
     arguments = parser.parse_args()
+    out, path = sys.stdout.buffer, arguments.suffixes
     try:
-        explain(arguments)
+        title, suffixes = (path, pathlib.Path(path).read_bytes()) if path else suffix_list()
+        out.write(f"public suffixes: {title}\n".encode())
+        out.write(report(arguments.url, sys.stdin.buffer.read(), suffixes, arguments.cross_site, arguments.now))
     except (OSError, ValueError) as error:
         sys.stdout.flush()
         command.error(str(error))

@@ -6,20 +6,23 @@ it is first named.
 from __future__ import annotations
 
 import ctypes
+import functools
 import os
 import platform
 import re
 import struct
 from binascii import a2b_qp
-from typing import Any, Callable, NoReturn, Sequence
+from typing import Any, Callable, NoReturn, Sequence, Union
 
 from ._header import CALLS, HERE, STRUCTS, VERSION
-from .errors import BufferTooShort, CookieError, KeyTooShort, error_of
+from ._locks import Lock
+from .errors import BufferTooShort, KeyTooShort, error_of
 
+Text = Union[str, bytes]
 DONE = 0
 # The lengths of a name and its text in a list.
-LENGTHS = struct.Struct("<QQ")
-CHARS, SIZE = ctypes.c_char_p, ctypes.c_size_t
+LENGTHS, SEEDS = struct.Struct("<QQ"), struct.Struct("QQ")
+CHARS, SIZE, SHORT = ctypes.c_char_p, ctypes.c_size_t, ctypes.c_char * 256
 
 
 class Handle(ctypes.Structure):
@@ -49,14 +52,16 @@ TYPES: dict[str, Any] = {
     "bool": ctypes.c_bool, "int8_t": ctypes.c_int8, "int16_t": ctypes.c_int16, "uint8_t": ctypes.c_uint8,
     "uint32_t": ctypes.c_uint32, "int64_t": ctypes.c_int64, "uint64_t": ctypes.c_uint64, "size_t": SIZE, "void": None,
 }
+# The structs that have only a handle.
+HANDLES = [name for name, fields in STRUCTS.items() if fields.split() == ["cookie_handle", "handle"]]
 
 
 def type_named(name: str) -> Any:
-    """The type of cookie.h with that name. A struct that has only a handle is a `Handle`."""
-    if name not in TYPES:
-        fields = [declared(field) for field in STRUCTS[name].split(";")]
-        is_handle = fields[0][0] in ("handle", "is_open")
-        TYPES[name] = Handle if is_handle else type("Record", (ctypes.Structure,), {"_fields_": fields})
+    """The type of cookie.h with that name. A struct that has only a handle is an `OwnHandle`."""
+    if name not in TYPES and name in HANDLES:
+        TYPES[name] = type(name, (OwnHandle,), {"free": call_named(name + "_free")})
+    elif name not in TYPES:
+        TYPES[name] = type(name, (ctypes.Structure,), {"_fields_": list(map(declared, STRUCTS[name].split(";")))})
     return TYPES[name]
 
 
@@ -64,18 +69,17 @@ def declared(text: str) -> tuple[str, Any]:
     """The name and the type of a field or a parameter. A text is a pointer to its bytes."""
     kind, star, name, count = re.findall(r"(\w+) (\*?)(\w+)(?:\[(\d+)])?$", text)[0]
     if star:
-        return name, CHARS if kind == "uint8_t" else ctypes.POINTER(type_named(kind))
+        return name, CHARS if kind == "uint8_t" else ctypes.POINTER(Handle if kind in HANDLES else type_named(kind))
     return name, type_named(kind) * int(count) if count else type_named(kind)
 
 
 def call_named(name: str) -> Callable[..., Any]:
-    """The call of cookie.h with that name. `are_texts` is which of its arguments are texts, each with its length."""
+    """The call of cookie.h with that name. `texts` has the places of its arguments that are texts, without `out`."""
     function: Any = getattr(LIBRARY, name)
     parameters, result = CALLS[name]
-    kinds = [] if parameters == "void" else [declared(text)[1] for text in parameters.split(",")]
-    function.argtypes, function.restype = kinds, type_named(result)
-    lengths = [place + 1 for place, kind in enumerate(kinds) if kind is CHARS]
-    function.are_texts = [kind is CHARS for place, kind in enumerate(kinds) if place not in lengths]
+    words = [] if parameters == "void" else list(map(declared, parameters.split(",")))
+    function.argtypes, function.restype = [kind for _, kind in words], type_named(result)
+    function.texts = [place for place, (name, kind) in enumerate(words) if kind is CHARS and name != "out"]
     return function  # type: ignore[no-any-return]
 
 
@@ -93,14 +97,32 @@ if call_named("cookie_version")() != VERSION:
 
 
 class OwnHandle(Handle):
-    """A handle that is freed when nothing refers to it any more."""
+    """A handle that is freed when nothing refers to it any more. Only one call at a time may use it, and so enters
+    `lock`. Most calls are short, so handles share one."""
 
-    def __init__(self, free: Callable[..., Any]) -> None:
-        self.free = free
+    free: Callable[..., Any]
+    lock = Lock()
 
     def __del__(self) -> None:
         if self.is_open:
             self.free(self)
+
+    def perform(self, function: Callable[..., Any], *inputs: Any) -> None:
+        """Makes a call with the handle that returns no text."""
+        with self.lock:
+            perform(function, self, *inputs)
+
+    def text(self, function: Callable[..., Any], *inputs: Any, **rooms: Any) -> bytes:
+        """The bytes that a call with the handle returns."""
+        with self.lock:
+            return bytes_from(function, self, *inputs, **rooms)
+
+    def text_or_none(self, none: Any, function: Callable[..., Any], *inputs: Any) -> str | None:
+        """The text that a call with the handle returns, or None if it is refused as `none`."""
+        try:
+            return self.text(function, *inputs).decode()
+        except none:
+            return None
 
 
 class Uncopied:
@@ -108,6 +130,13 @@ class Uncopied:
 
     def __reduce_ex__(self, _: Any) -> NoReturn:
         raise TypeError(f"a {type(self).__name__} can't be copied or pickled: make another one")
+
+
+def typed(value: Any, kinds: Any, rule: str, error: type[Exception] = TypeError) -> Any:
+    """The value, or an error with the rule if it has another type, whose name is put in for `{}`."""
+    if not isinstance(value, kinds):
+        raise error(rule.format(type(value).__name__))
+    return value
 
 
 def bytes_of(text: str | bytes) -> bytes:
@@ -119,9 +148,7 @@ def bytes_of(text: str | bytes) -> bytes:
 
 def key_of(key: bytes, rule: str = "a key is bytes") -> bytes:
     """The key's bytes, or `TypeError` with the rule. `bytes` of a number would be as many zeros."""
-    if not isinstance(key, (bytes, bytearray, memoryview)):
-        raise TypeError(f"{rule}, and not of the type {type(key).__name__}")
-    return bytes(key)
+    return bytes(typed(key, (bytes, bytearray, memoryview), rule + ", and not of the type {}"))
 
 
 def ring_of(keys: Sequence[bytes]) -> bytes:
@@ -150,21 +177,22 @@ def header_of(header: str | bytes | None) -> bytes:
 
 def arguments_of(function: Any, inputs: tuple[Any, ...]) -> list[Any]:
     """The arguments for C: where the function takes a text, its bytes and their count."""
-    arguments: list[Any] = []
-    for value, is_text in zip(inputs, function.are_texts):
-        if is_text:
-            text = bytes_of(value)
-            arguments += text, len(text)
-        else:
-            arguments.append(value)
+    arguments = list(inputs)
+    for place in function.texts:
+        text = arguments[place] = bytes_of(arguments[place])
+        arguments.insert(place + 1, len(text))
     return arguments
+
+
+def check(status: int | None) -> None:
+    """Raises what a status refuses. A call that never refuses has none."""
+    if status:
+        raise error_of(status)
 
 
 def perform(function: Callable[..., Any], *inputs: Any) -> None:
     """Makes a call that returns no text."""
-    status = function(*arguments_of(function, inputs))
-    if status != DONE:
-        raise error_of(status)
+    check(function(*arguments_of(function, inputs)))
 
 
 def checked(answer: Any) -> Any:
@@ -179,18 +207,17 @@ def answer_and_bytes(function: Any, *inputs: Any, room: int = 256, buffer: Any =
     is called again with one that fits. `buffer` is one that only this call uses now."""
     arguments = arguments_of(function, inputs)
     while True:
-        buffer = (ctypes.c_char * room)() if buffer is None else buffer
+        buffer = array_type(ctypes.c_char, room)() if buffer is None else buffer
         answer = function(*arguments, buffer, len(buffer))
         if answer.status != BufferTooShort.status:
             return answer, buffer[: getattr(answer, "length", room)]
-        buffer, room = None, answer.length if hasattr(answer, "length") else end_of(getattr(answer, "stored", answer))
+        buffer, room = None, getattr(answer, "length", 2 * len(buffer))
 
 
-def end_of(answer: Any) -> int:
-    """Where the last span of an answer ends."""
-    span = type_named("cookie_span")
-    spans: list[Any] = [getattr(answer, name) for name, kind in answer._fields_ if kind is span]
-    return max(int(span.start + span.length) for span in spans)
+@functools.lru_cache(maxsize=64)
+def array_type(kind: Any, count: int) -> Any:
+    """The type of an array. ctypes makes one anew each time, which costs more than most calls."""
+    return kind * count
 
 
 def bytes_from(function: Callable[..., Any], *inputs: Any, **rooms: Any) -> bytes:
@@ -200,14 +227,6 @@ def bytes_from(function: Callable[..., Any], *inputs: Any, **rooms: Any) -> byte
     return text
 
 
-def text_or_none(function: Callable[..., Any], none: tuple[type[CookieError], ...], *inputs: Any) -> str | None:
-    """The text that a call returns, or None if it is refused as one of `none`."""
-    try:
-        return bytes_from(function, *inputs).decode()
-    except none:
-        return None
-
-
 def bytes_at(text: bytes, span: Any) -> bytes:
     """The bytes of the span."""
     return text[span.start : span.start + span.length]
@@ -215,14 +234,21 @@ def bytes_at(text: bytes, span: Any) -> bytes:
 
 def listed(texts: bytes) -> list[tuple[str, str]]:
     """The names and texts of a list: each pair after the lengths of both."""
-    found, at, end = [], LENGTHS.size, len(texts)
-    while at <= end:
-        name, text = LENGTHS.unpack_from(texts, at - LENGTHS.size)
-        middle = at + name
+    found, last, end, (whole, decode) = [], 0, len(texts), whole_of(texts)
+    while last < end:
+        name, text = LENGTHS.unpack_from(texts, last)
+        first = last + LENGTHS.size
+        middle = first + name
         last = middle + text
-        found.append((texts[at:middle].decode(), texts[middle:last].decode()))
-        at = last + LENGTHS.size
+        found.append((decode(whole[first:middle]), decode(whole[middle:last])))
     return found
+
+
+def whole_of(texts: bytes) -> tuple[Any, Callable[[Any], str]]:
+    """The texts, and what decodes a part of them. If each byte is a character, one call decodes them all."""
+    if texts.isascii():
+        return texts.decode(), str
+    return texts, bytes.decode
 
 
 def unescaped(text: str) -> str:
@@ -232,4 +258,4 @@ def unescaped(text: str) -> str:
 
 def seeds() -> tuple[int, ...]:
     """Two random numbers, which a jar hashes names with."""
-    return struct.unpack("QQ", os.urandom(16))
+    return SEEDS.unpack(os.urandom(16))

@@ -7,20 +7,18 @@ import weakref
 from typing import Any
 
 
-class Lock:
+class Lock(type(threading.RLock())):  # type: ignore[misc]
     """Lets one thread in at a time. A thread that forks the process first waits until no other is in. So a child finds
     what the lock guards whole, and the lock free."""
 
+    def __new__(cls, *_: object) -> Any:
+        # PyPy's takes no arguments.
+        return super().__new__(cls)
+
     def __init__(self) -> None:
-        self.inner = threading.RLock()
+        super().__init__()
         with LOCKS_LOCK:
             LOCKS.add(self)
-
-    def __enter__(self) -> None:
-        self.inner.acquire()
-
-    def __exit__(self, *_: object) -> None:
-        self.inner.release()
 
     def before_fork(self) -> None:
         """What the process does while it is in, before it forks."""
@@ -36,17 +34,15 @@ def enter_all() -> None:
     """Enters each lock. As long as it waits for one, others may make new ones."""
     FORKS.acquire()
     entered: set[Lock] = set()
-    while True:
-        LOCKS_LOCK.acquire()
-        new = set(LOCKS) - entered
-        if not new:
-            break
+    LOCKS_LOCK.acquire()
+    while new := set(LOCKS) - entered:
         LOCKS_LOCK.release()
         for lock in new:
-            lock.inner.acquire()
+            lock.acquire()
             lock.before_fork()
         entered |= new
-    held.extend([FORKS, LOCKS_LOCK, *(lock.inner for lock in entered)])
+        LOCKS_LOCK.acquire()
+    held.extend([FORKS, LOCKS_LOCK, *entered])
 
 
 def leave_all() -> None:

@@ -5,7 +5,7 @@ import functools
 import re
 from typing import NamedTuple
 
-from ._library import READ_URL, answer_and_bytes, bytes_at, checked
+from ._library import READ_URL, answer_and_bytes, bytes_at, checked, typed
 from .errors import NoUrl
 
 # What no host has that is the same to all readers: what ends it in a URL, an escape, a blank, or an empty label.
@@ -26,14 +26,15 @@ class Address(NamedTuple):
     is_top_level: bool = True
 
 
+@functools.lru_cache(maxsize=1024)
 def address_of(url: str, is_cross_site: bool = False, is_localhost_secure: bool = True) -> Address:
     """The address of a URL, for a request of its own site, or for one that another site's page made, as a frame does.
-    Raises `NoUrl` if the URL isn't one of http or https with a host.
-    """
-    host, path, is_address, is_https, is_local = read_url(url)
+    Raises `NoUrl` if the URL isn't one of http or https with a host."""
+    found, texts = answer_and_bytes(READ_URL, typed(url, str, "a URL is a str"))
+    host, path = (bytes_at(texts, span).decode() for span in (checked(found).host, found.path))
     # Browsers count a connection that doesn't leave the machine as secure.
-    is_secure = is_https or is_local and is_localhost_secure
-    return Address(host, path, is_address, is_secure, not is_cross_site, not is_cross_site)
+    is_secure = found.is_https or found.is_local and is_localhost_secure
+    return Address(host, path, found.is_address, is_secure, not is_cross_site, not is_cross_site)
 
 
 def address_at(scheme: str, host: str, path: str, is_localhost_secure: bool = True) -> Address:
@@ -56,14 +57,3 @@ def address_at(scheme: str, host: str, path: str, is_localhost_secure: bool = Tr
     if address.is_address and address.host != host and not name.startswith("["):
         raise NoUrl("the host isn't the same to all readers")
     return address
-
-
-@functools.lru_cache(maxsize=1024)
-def read_url(url: str) -> tuple[str, str, bool, bool, bool]:
-    """The host and the path of a URL, whether the host is an IP address, whether the scheme is https, and whether the
-    host is this machine."""
-    if not isinstance(url, str):
-        raise TypeError("a URL is a str")
-    reading, texts = answer_and_bytes(READ_URL, url)
-    host, path = (bytes_at(texts, span).decode() for span in (checked(reading).host, reading.path))
-    return host, path, reading.is_address, reading.is_https, reading.is_local

@@ -4,21 +4,19 @@ The drop-ins for clients are `deomigal.requests`, `deomigal.httpx`, `deomigal.ai
 """
 from __future__ import annotations
 
+import contextlib
 import ctypes
-import datetime
 import errno
 import itertools
 import os
 import stat
 import tempfile
 import time
+from datetime import datetime
 from typing import Any, Callable, Iterable, Iterator, NamedTuple
 
-from ._library import (
-    AGENT_CLEAR, AGENT_COOKIE, AGENT_COUNT, AGENT_FREE, AGENT_LOAD, AGENT_NEW, AGENT_OBSTACLES, AGENT_READ,
-    AGENT_REMOVE, AGENT_RETRIEVE, AGENT_SAVE, AGENT_TRIM, SIZE, OwnHandle, Uncopied, answer_and_bytes, bytes_from,
-    bytes_of, checked, perform,
-)
+from . import _library as library
+from ._library import SIZE, OwnHandle, Text, Uncopied, answer_and_bytes, bytes_of, checked, perform
 from ._locks import Lock
 from .addresses import Address, address_at, address_of
 from .dates import whole_second
@@ -80,12 +78,8 @@ class AgentCookie(NamedTuple):
         """Whether it isn't expired at that second."""
         return self.expiry is None or now < self.expiry
 
-    def key(self) -> tuple[str, str, bool, str]:
-        """What no two stored cookies have in common."""
-        return self.name, self.domain, self.is_host_only, self.path
 
-
-class Agent(Uncopied):
+class Agent(Uncopied, contextlib.AbstractContextManager["Agent"]):
     """A user agent: it reads `Set-Cookie` headers, stores the cookies, and says which of them a request sends, as RFC
     6265bis has it. `with Agent() as agent` frees it at last. Threads may share it.
 
@@ -104,7 +98,7 @@ class Agent(Uncopied):
     """
 
     def __init__(
-        self, suffixes: str | bytes | None = None, *, is_localhost_secure: bool = True, per_domain: int = 50,
+        self, suffixes: Text | None = None, *, is_localhost_secure: bool = True, per_domain: int = 50,
         per_site: int | None = None, total: int = 3000, clock: Callable[[], float] = time.time,
     ) -> None:
         self.title, found = suffix_list() if suffixes is None else ("the caller's", suffixes)
@@ -117,14 +111,12 @@ class Agent(Uncopied):
         self.is_localhost_secure, self.limits, self.clock = is_localhost_secure, (per_domain, per_site, total), clock
         # How many cookies were stored since the limits were looked at, and at how many it looks again.
         self.stored, self.enough = 0, min(self.limits)
-        # Only one call at a time may use the handle.
-        self.lock, self.handle, (self.rules, self.rules_lock) = Lock(), OwnHandle(AGENT_FREE), rules_of(self.suffixes)
+        self.handle: OwnHandle = library.Agent()
+        self.handle.lock = self.lock = Lock()
+        self.rules = rules_of(self.suffixes)
         # Where headers are written to.
         self.room: Any = ctypes.create_string_buffer(HEADER_ROOM)
-        perform(AGENT_NEW, self.handle)
-
-    def __enter__(self) -> Agent:
-        return self
+        perform(library.AGENT_NEW, self.handle)
 
     def __exit__(self, *_: object) -> None:
         self.close()
@@ -138,9 +130,7 @@ class Agent(Uncopied):
         words: Any = dict(zip(("per_domain", "per_site", "total"), self.limits), clock=self.clock)
         return Agent(self.suffixes, is_localhost_secure=self.is_localhost_secure, **words)
 
-    def read(
-        self, url: str, text: str | bytes, now: datetime.datetime | None = None, context: Context = SAME_SITE
-    ) -> Refusal | None:
+    def read(self, url: str, text: Text, now: datetime | None = None, context: Context = SAME_SITE) -> Refusal | None:
         """Reads the value of a `Set-Cookie` header of the response from the URL, at the time `now` or the clock's.
         Returns None if the cookie is stored, or why it is refused. What is expired drops a cookie.
 
@@ -156,8 +146,8 @@ class Agent(Uncopied):
         """Reads the value of a `Set-Cookie` header of a response from the address, as `read` does."""
         second = self.second(None) if second is None else whole_second(second)
         request = request_of(address)
-        with self.lock, self.rules_lock:
-            found = checked(AGENT_READ(self.handle, self.rules, request, text, len(text), second)).refusal
+        with self.lock, self.rules.lock:
+            found = checked(library.AGENT_READ(self.handle, self.rules, request, text, len(text), second)).refusal
             self.stored += not found
             if self.stored >= self.enough:
                 self.trim(second)
@@ -172,10 +162,10 @@ class Agent(Uncopied):
 
     def trim(self, second: int) -> None:
         """Drops what is expired, and the cookies above the limits (RFC 6265bis, Storage Model)."""
-        perform(AGENT_TRIM, self.handle, self.rules, *self.limits, second)
-        self.stored, self.enough = 0, max(min(self.limits), AGENT_COUNT(self.handle).length // 4)
+        perform(library.AGENT_TRIM, self.handle, self.rules, *self.limits, second)
+        self.stored, self.enough = 0, max(min(self.limits), library.AGENT_COUNT(self.handle).length // 4)
 
-    def header(self, url: str, now: datetime.datetime | None = None, context: Context = SAME_SITE) -> bytes:
+    def header(self, url: str, now: datetime | None = None, context: Context = SAME_SITE) -> bytes:
         """The value of the `Cookie` header that a request to the URL sends, at the time `now` or the clock's. It is
         empty if the request sends none: leave the header out then. It is the last access of each cookie that is sent.
 
@@ -190,25 +180,23 @@ class Agent(Uncopied):
         return self.header_at(self.address_of(url, context), context.is_safe, self.second(now))
 
     def header_at(
-        self, address: Address, is_safe: bool = True, second: int | None = None,
-        call: Callable[..., Any] = AGENT_RETRIEVE,
+        self, address: Address, is_safe: bool = True, second: int | None = None, call: Any = library.AGENT_RETRIEVE
     ) -> bytes:
         """The value of the `Cookie` header of a request to the address. The drop-ins call it."""
         second = self.second(None) if second is None else whole_second(second)
-        with self.lock:
-            return bytes_from(call, self.handle, request_of(address, is_safe), second, buffer=self.room)
+        return self.handle.text(call, request_of(address, is_safe), second, buffer=self.room)
 
     def cookies(self, second: int) -> Iterator[AgentCookie]:
         """The stored cookies. Some may be expired at that second: such a one has it as its expiry."""
         for index in itertools.count():
-            found, texts = answer_and_bytes(AGENT_COOKIE, self.handle, index, second, room=ROOM)
+            found, texts = answer_and_bytes(library.AGENT_COOKIE, self.handle, index, second, room=ROOM)
             if found.status == NotFound.status:
                 return
             stored = checked(found).stored
             yield AgentCookie(*fields_of(stored, texts, "surrogateescape", second + stored.lifetime))
 
     def unsent(
-        self, url: str, now: datetime.datetime | None = None, context: Context = SAME_SITE
+        self, url: str, now: datetime | None = None, context: Context = SAME_SITE
     ) -> list[tuple[AgentCookie, list[str]]]:
         """The stored cookies that a request to the URL doesn't send, each with why it doesn't: every condition of
         RFC 6265bis that it fails.
@@ -219,13 +207,11 @@ class Agent(Uncopied):
         [('session', ['the connection is insecure and the cookie Secure'])]
         """
         request, second = request_of(self.address_of(url, context), context.is_safe), self.second(now)
-        found = []
         with self.lock:
-            for index, cookie in enumerate(self.cookies(second)):
-                bits = checked(AGENT_OBSTACLES(self.handle, index, request, second)).obstacles
-                if bits:
-                    found.append((cookie, [why for bit, why in OBSTACLES.items() if bits & bit]))
-        return found
+            cookies = list(self.cookies(second))
+            found = [library.AGENT_OBSTACLES(self.handle, index, request, second) for index in range(len(cookies))]
+        failed = zip(cookies, [checked(answer).obstacles for answer in found])
+        return [(cookie, [why for bit, why in OBSTACLES.items() if bits & bit]) for cookie, bits in failed if bits]
 
     def __iter__(self) -> Iterator[AgentCookie]:
         """The cookies that are stored and not expired, in the order of their creation.
@@ -253,8 +239,7 @@ class Agent(Uncopied):
         """
         name, domain, path = map(header_bytes, (cookie.name, cookie.domain, cookie.path))
         try:
-            with self.lock:
-                perform(AGENT_REMOVE, self.handle, name, domain, cookie.is_host_only, path)
+            self.handle.perform(library.AGENT_REMOVE, name, domain, cookie.is_host_only, path)
         except NotFound:
             return False
         return True
@@ -267,9 +252,8 @@ class Agent(Uncopied):
         >>> agent.clear("shop.example"), len(agent)
         (None, 0)
         """
-        call, words = (AGENT_NEW, ()) if domain is None else (AGENT_CLEAR, (header_bytes(domain),))
-        with self.lock:
-            perform(call, self.handle, *words)
+        call, words = (library.AGENT_NEW, ()) if domain is None else (library.AGENT_CLEAR, (header_bytes(domain),))
+        self.handle.perform(call, *words)
 
     def save(self, path: str | os.PathLike[str], form: str = JSON) -> int:
         """Writes the cookies that have an expiry and aren't expired to a file that only its owner may read. If that
@@ -292,7 +276,7 @@ class Agent(Uncopied):
         """
         words = number_of(form), self.second(None)
         with self.lock:
-            saving, text = answer_and_bytes(AGENT_SAVE, self.handle, *words, room=HEADER_ROOM)
+            saving, text = answer_and_bytes(library.AGENT_SAVE, self.handle, *words, room=HEADER_ROOM)
         left_out: int = checked(saving).left_out
         replace(os.path.realpath(path), text)
         return left_out
@@ -302,18 +286,22 @@ class Agent(Uncopied):
         hold no cookie, or one that no user agent could have stored. What is expired is left out, and none lasts for
         more than 400 days. Without `form` the file's first byte says which form it has. Raises `ValueError` if the file
         has more than 64 MiB, and `OSError` if it is no regular file."""
-        with open(path, "rb", opener=file_opener) as file:
+        # To open a FIFO so doesn't wait for somebody who writes.
+        with open(path, "rb", opener=lambda name, flags: os.open(name, flags | os.O_NONBLOCK)) as file:
+            if not stat.S_ISREG(os.fstat(file.fileno()).st_mode):
+                raise OSError(errno.EINVAL, "no regular file", path)
             text = file.read(MOST + 1)
         if len(text) > MOST:
             raise ValueError(f"the file has more than {MOST} bytes")
         form = form if form is not None else JSON if text.lstrip()[:1] == b"{" else NETSCAPE
         number, second, most = number_of(form), self.second(None), text.count(b"\n") + 1
         bad = (SIZE * most)()
-        with self.lock, self.rules_lock:
+        with self.lock, self.rules.lock:
             words = self.handle, self.rules, number, text, len(text), second, bad, most
-            count = checked(AGENT_LOAD(*words)).bad_lines
+            count = checked(library.AGENT_LOAD(*words)).bad_lines
             self.trim(second)
-        return bad[:count]
+        # Three times as fast as `bad[:count]`.
+        return memoryview(bad).cast("B").cast("Q")[:count].tolist()
 
     def address_of(self, url: str, context: Context) -> Address:
         """The address of the URL, for a request in this context."""
@@ -333,7 +321,7 @@ class Agent(Uncopied):
         is_safe = context.is_safe and method.upper() in SAFE_METHODS
         return b"" if address is None else self.header_at(address, is_safe)
 
-    def second(self, now: datetime.datetime | None) -> int:
+    def second(self, now: datetime | None) -> int:
         """The time in whole seconds since 1970, by default the clock's. Raises `NoDate` if no call takes it."""
         return whole_second(self.clock()) if now is None else second_of(now)
 
@@ -343,15 +331,6 @@ def number_of(form: str) -> int:
     if form not in FORMS:
         raise ValueError(f"a form is {JSON!r} or {NETSCAPE!r}")
     return FORMS[form]
-
-
-def file_opener(path: str, flags: int) -> int:
-    """Opens a regular file. Of a FIFO it doesn't wait for somebody who writes."""
-    handle = os.open(path, flags | os.O_NONBLOCK)
-    if not stat.S_ISREG(os.fstat(handle).st_mode):
-        os.close(handle)
-        raise OSError(errno.EINVAL, "no regular file", path)
-    return handle
 
 
 def replace(path: str, text: bytes) -> None:
@@ -375,6 +354,6 @@ def replace(path: str, text: bytes) -> None:
         os.close(directory)
 
 
-def header_bytes(text: str | bytes) -> bytes:
+def header_bytes(text: Text) -> bytes:
     """The bytes of a text of a header. A lone surrogate stands for a byte that isn't UTF-8 (PEP 383)."""
     return text.encode(errors="surrogateescape") if isinstance(text, str) else bytes_of(text)

@@ -72,8 +72,12 @@ class ReadCookies(Cookies):
 class CookieJar(AbstractCookieJar):
     """The cookies of an agent, by default a new one, as aiohttp's. Pass it with the two classes: see `cookies_of`.
 
-    `context` says how its requests come about, by default same-site.
+    `context` says how its requests come about, by default same-site. `unsafe` is true: a host that is an IP address has
+    cookies too (RFC 6265bis, Domain Matching). So is `quote_cookie`, as by default in aiohttp: of the caller's own
+    `cookies` odd values are sent in quotes.
     """
+
+    unsafe = quote_cookie = True
 
     def __init__(self, agent: Agent | None = None, *, context: Context = SAME_SITE) -> None:
         super().__init__()
@@ -100,8 +104,7 @@ class CookieJar(AbstractCookieJar):
             parsed[name] = value
             domain = parsed[name]["domain"].lstrip(".")
             url = response_url if response_url.host or not domain else URL.build(scheme="https", host=domain)
-            address = self.address_of(url)
-            if address is None:
+            if (address := self.address_of(url)) is None:
                 raise ValueError(f"the cookie {name!r} has no host: pass the URL of its response")
             self.agent.read_at(address, header_bytes(parsed[name].OutputString()))
 
@@ -122,16 +125,6 @@ class CookieJar(AbstractCookieJar):
     def clear_domain(self, domain: str) -> None:
         """Removes the cookies of the domain and of those below it."""
         self.clear(lambda cookie: f".{cookie['domain']}".endswith(f".{domain}"))
-
-    @property
-    def unsafe(self) -> bool:
-        """True: a host that is an IP address has cookies too (RFC 6265bis, Domain Matching)."""
-        return True
-
-    @property
-    def quote_cookie(self) -> bool:
-        """True, as by default in aiohttp: of the caller's own `cookies` odd values are sent in quotes."""
-        return True
 
     @property
     def cookies(self) -> Mapping[tuple[str, str], BaseCookie[str]]:
@@ -163,8 +156,7 @@ class ClientRequest(aiohttp.ClientRequest):
         if not isinstance(cookies, SentCookies):
             super().update_cookies(cookies)
             return
-        text = cookies.text(self.method, self.headers.pop("Cookie", None))
-        if text:
+        if text := cookies.text(self.method, self.headers.pop("Cookie", None)):
             self.headers["Cookie"] = text
 
 

@@ -4,6 +4,8 @@ The length tells of what is compressed. `Sessions` says when not to do so.
 """
 from __future__ import annotations
 
+import functools
+import re
 import zlib
 from typing import Mapping
 
@@ -11,7 +13,7 @@ from ._library import unescaped
 
 # The characters of a text that the library escapes in a session's cookie, as three bytes each, and how.
 MARKS = "%&+="
-ESCAPES = [(mark, f"%{ord(mark):02X}") for mark in MARKS]
+escape = functools.partial(re.compile(f"[{MARKS}]").sub, lambda mark: f"%{ord(mark[0]):02X}")
 # The name of the one text that a compressed session has. An application hardly has it, and may.
 COMPRESSED = "\0"
 # How many bytes the form of a session's texts may have. A longer one isn't compressed, nor expanded.
@@ -19,7 +21,6 @@ MOST_BYTES = 65536
 # ASCII without the marks. Each character is one byte of the sealed text.
 DIGITS = "".join(chr(code) for code in range(128) if chr(code) not in MARKS)
 BASE = len(DIGITS)
-VALUES = {digit: value for value, digit in enumerate(DIGITS)}
 # As many bytes as fit into that number of digits: 256^13 is less than 124^15.
 BYTES, PLACES = 13, 15
 
@@ -34,11 +35,8 @@ def kept_of(texts: dict[str, str], compress: bool) -> dict[str, str]:
     """
     # What would be read as a compressed session is kept whole in one.
     is_taken = list(texts) == [COMPRESSED]
-    if not (compress or is_taken):
-        return texts
-    form = escaped_form(texts)
     # No browser stores more bytes.
-    if len(form) > MOST_BYTES:
+    if not (compress or is_taken) or len(form := escaped_form(texts)) > MOST_BYTES:
         return texts
     compressed = {COMPRESSED: digits_of(deflate(form, 9 if compress else 0))}
     return compressed if is_taken or len(escaped_form(compressed)) < len(form) else texts
@@ -53,13 +51,6 @@ def texts_of(kept: dict[str, str]) -> dict[str, str]:
 def escaped_form(texts: Mapping[str, str]) -> bytes:
     """The texts as a form in which only the marks are escaped."""
     return "&".join(f"{escape(name)}={escape(text)}" for name, text in texts.items()).encode()
-
-
-def escape(text: str) -> str:
-    """The text with escapes of the marks."""
-    for mark, code in ESCAPES:
-        text = text.replace(mark, code) if mark in text else text
-    return text
 
 
 def form_texts(form: bytes) -> dict[str, str]:
@@ -105,8 +96,8 @@ def bytes_of_digits(digits: str) -> bytes:
     data = b""
     try:
         for block in (digits[start : start + PLACES] for start in range(0, len(digits), PLACES)):
-            number = sum(VALUES[digit] * BASE**place for place, digit in enumerate(block))
+            number = sum(DIGITS.index(digit) * BASE**place for place, digit in enumerate(block))
             data += number.to_bytes(len(block) * BYTES // PLACES, "little")
-    except (KeyError, OverflowError) as error:
+    except (ValueError, OverflowError) as error:
         raise ValueError("these aren't digits of base 124") from error
     return data

@@ -46,8 +46,7 @@ class CookieJar(http.cookiejar.CookieJar):
         """Sets the request's `Cookie` header, unless it has one."""
         if not request.has_header("Cookie"):
             method = request.get_method() if hasattr(request, "get_method") else "GET"
-            header = self.agent.header_for(self.address_of(request), method, self.context)
-            if header:
+            if header := self.agent.header_for(self.address_of(request), method, self.context):
                 # http.client prints a character as the byte of Latin-1.
                 request.add_unredirected_header("Cookie", header.decode("latin-1"))
 
@@ -93,17 +92,14 @@ class CookieJar(http.cookiejar.CookieJar):
         >>> other.agent.header("https://shop.example/")
         b'lang=en'
         """
-        host = without_local(cookie.domain).lstrip(".")
-        if not host:
+        if not (host := without_local(cookie.domain).lstrip(".")):
             raise ValueError(f"the cookie {cookie.name!r} has no domain: RFC 6265bis knows no cookie of all hosts")
-        refusal = self.agent.read_at(address_at("https", host, "/"), text_of(cookie, self.agent.clock()))
-        if refusal is not None:
+        if refusal := self.agent.read_at(address_at("https", host, "/"), text_of(cookie, self.agent.clock())):
             raise ValueError(f"the cookie {cookie.name!r} isn't stored: {refusal.sentence}")
 
     def set_cookie_if_ok(self, cookie: http.cookiejar.Cookie, request: Any) -> None:
         """Stores the cookie if the response to the request could set it."""
-        address = self.address_of(request)
-        if address is not None:
+        if (address := self.address_of(request)) is not None:
             self.agent.read_at(address, text_of(cookie, self.agent.clock()))
 
     def clear(self, domain: str | None = None, path: str | None = None, name: str | None = None) -> None:
@@ -115,8 +111,7 @@ class CookieJar(http.cookiejar.CookieJar):
             return
         named = [cookie for cookie in self.agent if path in (None, cookie.path) and name in (None, cookie.name)]
         found = [cookie for cookie in named if domain_of(cookie) == domain]
-        found = found or [cookie for cookie in named if domain_of(cookie) == f".{domain}"]
-        if not found:
+        if not (found := found or [cookie for cookie in named if domain_of(cookie) == f".{domain}"]):
             raise KeyError(name or path or domain)
         for cookie in found:
             self.agent.remove(cookie)
@@ -207,8 +202,7 @@ def text_of(cookie: http.cookiejar.Cookie, now: float) -> bytes:
         pieces.append(f"Domain={without_local(cookie.domain)}")
     if cookie.expires is not None:
         pieces.append(f"Max-Age={max(cookie.expires - int(now), 0)}")
-    same_site = cookie.get_nonstandard_attr("SameSite")
-    if same_site in RULES[1:]:
+    if (same_site := cookie.get_nonstandard_attr("SameSite")) in RULES[1:]:
         pieces.append(f"SameSite={same_site}")
     flags = ["Secure"] * bool(cookie.secure) + ["HttpOnly"] * cookie.has_nonstandard_attr("HttpOnly")
     return header_bytes("; ".join(pieces + flags))

@@ -5,11 +5,12 @@ import datetime
 import time
 from typing import Any
 
-from ._library import PRINT_DATE, READ_DATE, bytes_from, bytes_of, checked
+from ._library import PRINT_DATE, READ_DATE, Text, bytes_from, bytes_of, checked, typed
 from .errors import NoDate, error_of
 
 # The first second that `datetime` has, the last one since 1970, and one more than the last that a call takes.
 FIRST, LAST, END = datetime.datetime(1, 1, 1, tzinfo=datetime.timezone.utc), 253402300799, 2**64
+A_TIME = "a time is a datetime.datetime"
 
 
 def whole_second(now: float | None) -> int:
@@ -18,9 +19,7 @@ def whole_second(now: float | None) -> int:
     >>> whole_second(1445412480.9)
     1445412480
     """
-    if not isinstance(now, (int, float, type(None))):
-        raise TypeError("a time is in seconds since 1970")
-    now = time.time() if now is None else now
+    now = time.time() if now is None else typed(now, (int, float), "a time is in seconds since 1970")
     # So an infinite one is refused, and what is no number.
     if not -1 < now < END:
         raise error_of(NoDate.status)
@@ -41,12 +40,10 @@ def date_at(second: float) -> datetime.datetime:
 
 def numbers_of(moment: datetime.datetime) -> tuple[int, ...]:
     """The six numbers of a date and time in UTC. One without a time zone counts as UTC."""
-    if not isinstance(moment, datetime.datetime):
-        raise TypeError("a time is a datetime.datetime")
-    return moment.utctimetuple()[:6]
+    return typed(moment, datetime.datetime, A_TIME).utctimetuple()[:6]  # type: ignore[no-any-return]
 
 
-def read_date(text: str | bytes) -> datetime.datetime | None:
+def read_date(text: Text) -> datetime.datetime | None:
     """Reads the text as a date and time in UTC, in one of four forms (RFC 9110 5.6.7, RFC 6265 5.1.1). Returns None if
     it isn't one, or if its year is below 1. Raises `NotUtf8`.
 

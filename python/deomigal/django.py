@@ -8,7 +8,9 @@ and in place of Django's own session middleware, so that no other host of the do
 """
 from __future__ import annotations
 
+import contextlib
 import datetime
+import functools
 import re
 import sys
 from typing import Any
@@ -28,37 +30,23 @@ from .sessions import Generations, Session, Sessions
 from .values import FAILURES, Failure, answer_to, note_unsaved, pack, unpack
 from .wsgi import header_in
 
-SALT = "deomigal.django"
-latest: Sessions | None = None
 
-
+@functools.lru_cache(maxsize=None)
 def site() -> Sessions:
     """The sessions of the site, by its settings, until Django tells that one changed. The keys are derived from
     SECRET_KEY and SECRET_KEY_FALLBACKS. A session is over DEOMIGAL_LIFETIME seconds after its start, by default
     SESSION_COOKIE_AGE. DEOMIGAL_REVOCATIONS keeps which sessions are revoked. For DEOMIGAL_COMPRESS see `Sessions`."""
-    global latest
-    found = latest
-    if found is not None:
-        return found
     secrets = (settings.SECRET_KEY, *(getattr(settings, "SECRET_KEY_FALLBACKS", None) or ()))
     lifetime = getattr(settings, "DEOMIGAL_LIFETIME", None) or settings.SESSION_COOKIE_AGE
-    same_site = settings.SESSION_COOKIE_SAMESITE
     # Django prints the attributes. They count for the prefix of the name.
     options: dict[str, Any] = {
         "path": settings.SESSION_COOKIE_PATH, "domain": settings.SESSION_COOKIE_DOMAIN,
         "secure": bool(settings.SESSION_COOKIE_SECURE), "http_only": bool(settings.SESSION_COOKIE_HTTPONLY),
-        "same_site": same_site.title() if same_site else None,
+        "same_site": (settings.SESSION_COOKIE_SAMESITE or "").title() or None,
         "revocations": getattr(settings, "DEOMIGAL_REVOCATIONS", None),
         "compress": bool(getattr(settings, "DEOMIGAL_COMPRESS", False)),
     }
-    latest = found = Sessions(keys_of(secrets, SALT), settings.SESSION_COOKIE_NAME, lifetime, lifetime, **options)
-    return found
-
-
-def forget_site(**_: Any) -> None:
-    """Has the sessions made anew, by other settings."""
-    global latest
-    latest = None
+    return Sessions(keys_of(secrets, "deomigal.django"), settings.SESSION_COOKIE_NAME, lifetime, lifetime, **options)
 
 
 def session_of(sessions: Sessions, key: str | None, header: bytes | None = None) -> Session:
@@ -89,7 +77,8 @@ class SessionStore(Generations, SessionBase):
             raise
         self.shows_revoked = self.showed_revoked = self.source.shows_revoked
         if not self.source.is_new:
-            try:
+            # Another program or another serializer may have saved it, as pickle, which raises what it wants.
+            with contextlib.suppress(Exception):
                 values: dict[str, Any] = self.serializer().loads(unpack(self.source.texts))
                 # The age that Django's settings or `set_expiry` allow.
                 zone = datetime.timezone.utc if settings.USE_TZ else None
@@ -97,9 +86,6 @@ class SessionStore(Generations, SessionBase):
                 age = self.get_expiry_age(modification=saved, expiry=values.get("_session_expiry"))
                 if self.source.now < self.source.seen + age:
                     return values
-            except Exception:
-                # Another program or another serializer saved it, as pickle, which raises what it wants.
-                pass
         self.source, self.header, self._session_key = None, None, ""
         return {}
 
@@ -209,8 +195,7 @@ class SessionMiddleware(DjangoMiddleware):
         if isinstance(response, Unavailable):
             return response
         session: Any = getattr(request, "session", None)
-        failure = getattr(session, "failure", None)
-        if failure:
+        if failure := getattr(session, "failure", None):
             return Unavailable(failure)
         is_old = getattr(session, "showed_revoked", False)
         if not is_old or not session.shows_revoked and not session.is_empty():
@@ -227,9 +212,7 @@ class Unavailable(HttpResponse):
 
     def __init__(self, error: Failure) -> None:
         status, fields, page = answer_to(error)
-        super().__init__(page, status=int(status[:3]))
-        for name, value in fields:
-            self[name] = value
+        super().__init__(page, status=int(status[:3]), headers=dict(fields))
 
 
 def cycle_at_login(request: Any, **_: Any) -> None:
@@ -248,7 +231,7 @@ def note_failure(request: Any, **_: Any) -> None:
 
 user_logged_in.connect(cycle_at_login)
 got_request_exception.connect(note_failure)
-setting_changed.connect(forget_site)
+setting_changed.connect(lambda **_: site.cache_clear(), weak=False)
 
 if settings.configured:
     # Django's own middleware reads this file when the site starts.

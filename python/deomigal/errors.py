@@ -10,36 +10,8 @@ class CookieError(ValueError):
     status = 0
 
 
-class OutOfMemory(CookieError, MemoryError):
-    """Memory ran out."""
-
-
-class NotUtf8(CookieError):
-    """A text isn't UTF-8."""
-
-
-class KeyTooShort(CookieError):
-    """The key has fewer than 64 bytes."""
-
-
-class MasterTooShort(CookieError):
-    """The master key has fewer than 32 bytes."""
-
-
-class BadNonce(CookieError):
-    """The nonce doesn't have twelve bytes, or the id of a session sixteen."""
-
-
 class TooLong(CookieError):
     """The name or the value is too long to be sealed (SP 800-38D 5.2.1.1)."""
-
-
-class NoDate(CookieError):
-    """The text isn't a date, or there is no such date."""
-
-
-class BadMoment(CookieError):
-    """The time isn't a date of the year 100 or later."""
 
 
 class BadLine(CookieError):
@@ -52,14 +24,6 @@ class BadLine(CookieError):
 
 class MissingPair(CookieError):
     """There is no `=` before the first `;`."""
-
-
-class EmptyName(CookieError):
-    """The name is empty."""
-
-
-class BadEscape(CookieError):
-    """The name or the value, decoded, isn't UTF-8."""
 
 
 class NoJar(CookieError):
@@ -104,27 +68,34 @@ class RevocationsError(RuntimeError):
     such as status 503 (RFC 9110 15.6.4), and never as that of a visitor without a session."""
 
 
-# What this package's calls answer otherwise, such as by None, or never meet: with the header's sentence.
-BadIds: type[CookieError]
-BufferTooShort: type[CookieError]
-NoAgent: type[CookieError]
-NoKeys: type[CookieError]
-NoPair: type[CookieError]
-NoSession: type[CookieError]
-NoSessions: type[CookieError]
-NoSuffixes: type[CookieError]
-NotFound: type[CookieError]
-NotSealed: type[CookieError]
-NotSigned: type[CookieError]
-Replaces: type[CookieError]
-NAMED = {error.__name__: error for error in CookieError.__subclasses__()}
-ERRORS: dict[int, type[CookieError]] = {
-    number: NAMED.get(name) or type(name, (CookieError,), {"__doc__": f"{meaning[0].upper()}{meaning[1:]}."})
-    for number, name, meaning in STATUSES
-}
-for _number, _error in ERRORS.items():
-    _error.status = _number
-globals().update((error.__name__, error) for error in ERRORS.values())
+# Each of these says what the header says of its status.
+class OutOfMemory(CookieError, MemoryError): ...
+class BadEscape(CookieError): ...
+class BadIds(CookieError): ...
+class BadMoment(CookieError): ...
+class BadNonce(CookieError): ...
+class BufferTooShort(CookieError): ...
+class EmptyName(CookieError): ...
+class KeyTooShort(CookieError): ...
+class MasterTooShort(CookieError): ...
+class NoAgent(CookieError): ...
+class NoDate(CookieError): ...
+class NoKeys(CookieError): ...
+class NoPair(CookieError): ...
+class NoSession(CookieError): ...
+class NoSessions(CookieError): ...
+class NoSuffixes(CookieError): ...
+class NotFound(CookieError): ...
+class NotSealed(CookieError): ...
+class NotSigned(CookieError): ...
+class NotUtf8(CookieError): ...
+class Replaces(CookieError): ...
+
+
+ERRORS: dict[int, type[CookieError]] = {number: globals()[name] for number, name, _ in STATUSES}
+for _number, _, _meaning in STATUSES:
+    ERRORS[_number].status = _number
+    ERRORS[_number].__doc__ = ERRORS[_number].__doc__ or f"{_meaning[0].upper()}{_meaning[1:]}."
 
 
 def error_of(status: int, number: int = 0) -> CookieError:

@@ -2,21 +2,19 @@
 from __future__ import annotations
 
 import contextlib
-import datetime
 import functools
 import pathlib
 import re
+from datetime import datetime, timezone
 from typing import Any, NamedTuple
 
 from ._header import HERE
-from ._library import (
-    EXPLAIN, EXPLAIN_LINES, REFUSAL_SECTION, REFUSAL_SENTENCE, SUFFIXES_FREE, SUFFIXES_NEW, OwnHandle, Request,
-    answer_and_bytes, bytes_at, bytes_from, bytes_of, checked, perform,
-)
+from . import _library as library
+from ._library import OwnHandle, Text, answer_and_bytes, bytes_at, bytes_from, bytes_of, checked, perform, typed
 from ._locks import Lock
 from .addresses import Address, address_of
 from .cookies import RULES
-from .dates import whole_second
+from .dates import A_TIME, whole_second
 
 # The steps that refuse a cookie, in the order of their numbers in cookie.h.
 STEPS = (
@@ -55,8 +53,7 @@ class Stored(NamedTuple):
 
 
 def verdict(
-    url: str, text: str | bytes, suffixes: str | bytes | None = None, is_cross_site: bool = False,
-    now: datetime.datetime | None = None,
+    url: str, text: Text, suffixes: Text | None = None, is_cross_site: bool = False, now: datetime | None = None
 ) -> Stored | Refusal:
     """What a browser without cookies stores of the cookie in a `Set-Cookie` header's value, or why it refuses it.
 
@@ -71,9 +68,9 @@ def verdict(
     >>> verdict("https://shop.example/", "lang=en; Domain=other.example").step
     'ForeignDomain'
     """
-    request, (rules, lock) = request_of(address_of(url, is_cross_site)), rules_of(list_text(suffixes))
-    with lock:
-        found, texts = answer_and_bytes(EXPLAIN, rules, request, text, second_of(now), room=ROOM)
+    request, rules = request_of(address_of(url, is_cross_site)), rules_of(list_text(suffixes))
+    with rules.lock:
+        found, texts = answer_and_bytes(library.EXPLAIN, rules, request, text, second_of(now), room=ROOM)
     cookie = checked(found).stored
     if found.refusal:
         return refusal_of(found.refusal)
@@ -93,19 +90,17 @@ def fields_of(cookie: Any, texts: bytes, errors: str, end: int) -> tuple[Any, ..
 def request_of(address: Address, is_safe: bool = True) -> Any:
     """The request to the address, for C."""
     host, path = bytes_of(address.host), bytes_of(address.path)
-    return Request(host, len(host), path, len(path), *address[2:], is_safe)
+    return library.Request(host, len(host), path, len(path), *address[2:], is_safe)
 
 
 @functools.lru_cache(maxsize=None)
 def refusal_of(number: int) -> Refusal:
     """Why the step with the number refuses a cookie."""
-    sentence, section = (bytes_from(call, number, room=ROOM).decode() for call in (REFUSAL_SENTENCE, REFUSAL_SECTION))
-    return Refusal(STEPS[number - 1], sentence, section)
+    calls = library.REFUSAL_SENTENCE, library.REFUSAL_SECTION
+    return Refusal(STEPS[number - 1], *(bytes_from(call, number, room=ROOM).decode() for call in calls))
 
 
-def refusal(
-    url: str, text: str | bytes, suffixes: str | bytes | None = None, is_cross_site: bool = False
-) -> Refusal | None:
+def refusal(url: str, text: Text, suffixes: Text | None = None, is_cross_site: bool = False) -> Refusal | None:
     """Why a browser refuses the cookie, as `verdict` says, or None if it stores it.
 
     >>> refusal("https://shop.example/", "a=1; SameSite=None")[:2]
@@ -118,8 +113,7 @@ def refusal(
 
 
 def explain(
-    url: str, text: str | bytes, suffixes: str | bytes | None = None, is_cross_site: bool = False,
-    now: datetime.datetime | None = None,
+    url: str, text: Text, suffixes: Text | None = None, is_cross_site: bool = False, now: datetime | None = None
 ) -> str:
     """A line that says what a browser stores of the cookie, or why it refuses it, as `verdict` does.
 
@@ -134,8 +128,7 @@ def explain(
 
 
 def report(
-    url: str, paste: str | bytes, suffixes: str | bytes | None = None, is_cross_site: bool = False,
-    now: datetime.datetime | None = None,
+    url: str, paste: Text, suffixes: Text | None = None, is_cross_site: bool = False, now: datetime | None = None
 ) -> bytes:
     """What a browser makes of lines, one after the other, as the program cookie_explain says it: of each line that
     counts, and last the `Cookie` header of the next request. The other arguments are as for `verdict`.
@@ -143,9 +136,8 @@ def report(
     >>> report("https://shop.example/", "Set-Cookie: a=1; Path=/\\nNOW Wed, 21 Oct 2015 07:28:00 GMT").splitlines()[1:]
     [b'NOW Wed, 21 Oct 2015 07:28:00 GMT', b'Cookie: a=1']
     """
-    rules, lock = rules_of(list_text(suffixes))
-    with lock:
-        return bytes_from(EXPLAIN_LINES, rules, url, is_cross_site, second_of(now), paste, room=ROOM)
+    words = url, is_cross_site, second_of(now), paste
+    return rules_of(list_text(suffixes)).text(library.EXPLAIN_LINES, *words, room=ROOM)
 
 
 @functools.lru_cache(maxsize=1)
@@ -159,21 +151,20 @@ def suffix_list() -> tuple[str, bytes]:
 
 
 @functools.lru_cache(maxsize=4)
-def rules_of(suffixes: bytes) -> tuple[OwnHandle, Lock]:
-    """The rules of the list, and a lock: only one call at a time may use them. The last lists are kept."""
-    rules = OwnHandle(SUFFIXES_FREE)
-    perform(SUFFIXES_NEW, suffixes, rules)
-    return rules, Lock()
+def rules_of(suffixes: bytes) -> OwnHandle:
+    """The rules of the list, with a lock of their own. The last lists are kept."""
+    rules: OwnHandle = library.Suffixes()
+    rules.lock = Lock()
+    perform(library.SUFFIXES_NEW, suffixes, rules)
+    return rules
 
 
-def list_text(suffixes: str | bytes | None) -> bytes:
+def list_text(suffixes: Text | None) -> bytes:
     """The text of the list, by default `suffix_list`'s."""
     return suffix_list()[1] if suffixes is None else bytes_of(suffixes)
 
 
-def second_of(now: datetime.datetime | None) -> int:
+def second_of(now: datetime | None) -> int:
     """The time in whole seconds since 1970 in UTC, by default the clock's. A time without a zone counts as UTC."""
-    if not isinstance(now, (datetime.datetime, type(None))):
-        raise TypeError("a time is a datetime.datetime")
-    now = now or datetime.datetime.now(datetime.timezone.utc)
-    return whole_second(now.replace(microsecond=0, tzinfo=now.tzinfo or datetime.timezone.utc).timestamp())
+    now = datetime.now(timezone.utc) if now is None else typed(now, datetime, A_TIME)
+    return whole_second(now.replace(microsecond=0, tzinfo=now.tzinfo or timezone.utc).timestamp())

@@ -10,6 +10,7 @@ from __future__ import annotations
 
 import contextlib
 import copy
+import functools
 import json
 import marshal
 import time
@@ -17,20 +18,19 @@ from typing import Any, Callable, Dict, Mapping, NoReturn, Sequence, cast
 
 import flask
 from flask import Flask, Request, Response
+from flask import sessions as flasks
 from flask.json.tag import TaggedJSONSerializer
-from flask.sessions import SecureCookieSession, SecureCookieSessionInterface, SessionMixin
-from flask.sessions import SessionInterface as FlaskSessionInterface
-from flask.sessions import session_json_serializer as tagged
+from flask.sessions import SecureCookieSession, SessionMixin
 from itsdangerous import BadData
 from werkzeug.exceptions import Conflict, ServiceUnavailable
 
-from ._library import header_of
+from ._library import Text, header_of, typed
 from .cookies import pairs
 from .errors import Gone, RevocationsError
 from .revocations import Revocations
 from .secrets import keys_of
 from .sessions import MAX_AGE_AND_EXPIRES, UNTIL_CLOSED, Session, Sessions
-from .values import CODER, FAILURES, Failure, Opened, answer_to, checked_refresh, counted, note_unsaved
+from .values import A_REFRESH, CODER, FAILURES, Failure, Opened, answer_to, counted, note_unsaved
 
 # Where a request's environment has its session, and an application's extensions the interface.
 KEY = "deomigal.flask.session"
@@ -68,15 +68,15 @@ class FlaskSession(Opened, SecureCookieSession):
 
     def __init__(
         self, sessions: Sessions, source: Session, values: Mapping[str, Any], is_old: bool = False,
-        serializer: Any = tagged,
+        serializer: Any = flasks.session_json_serializer,
     ) -> None:
         super().__init__(values)
         self.sessions, self.source, self.new, self.is_old = sessions, source, source.is_new and not is_old, is_old
         # The texts that it was opened from; and each value's text with the mark that the value had then.
         self.serializer, self.opened = serializer, dict(source.texts)
         self.printed = {name: (mark_of(values[name]), text) for name, text in self.opened.items() if name in values}
-        # The texts that were saved last, how long the browser keeps them, and the cookie, or None if it was too large.
-        self.saved: tuple[dict[str, str], int, str | None] | None = None
+        # What was saved last, and the cookie, or None if it was too large.
+        self.saved: tuple[Any, str | None] = None, None
         # Whether the request has only revoked sessions. Then it drops no cookie: the browser may have another one.
         self.showed_revoked = source.shows_revoked
         # Whether a store failed, or another request renewed or ended it. Then the browser keeps what it has.
@@ -91,24 +91,12 @@ class FlaskSession(Opened, SecureCookieSession):
         copied.modified, copied.opened, copied.printed = self.modified, self.opened, dict(self.printed)
         return copied
 
-    def renew(self) -> None:
-        """Starts it anew with the same values and another id, so that the lifetime counts from this request. Call it at
-        a login, and on a page that keeps something for one. With `revocations` the old session opens no more."""
-        self.source.renew()
-        self.modified = self.accessed = True
-        self.saved = None
-
-    def clear(self) -> None:
-        """Drops the values, and starts it anew. A copy of its cookie stays open: at a logout call `revoke`."""
-        super().clear()
-        self.renew()
-
     def revoke(self) -> bool:
         """Logs the visitor out: revokes what the browser has, in each copy of its cookie, drops the values, and has the
         browser drop its cookie. Returns whether the browser had something. Raises what `Sessions.revoke` does."""
         is_ended = self.end()
         is_forgotten = self.get(REMEMBER) == "clear"
-        super().clear()
+        super(Opened, self).clear()
         if is_forgotten:
             # So Flask-Login drops the cookie that would log the user in again.
             self[REMEMBER] = "clear"
@@ -123,7 +111,6 @@ class FlaskSession(Opened, SecureCookieSession):
             raise http_error_of(error) from error
         if is_ended:
             self.modified = self.accessed = True
-            self.saved = None
         return is_ended
 
     def check(self) -> None:
@@ -135,21 +122,25 @@ class FlaskSession(Opened, SecureCookieSession):
     def save(self) -> str:
         """The text of the cookie that saves it, until the browser closes if it isn't permanent. It is made once for the
         same values."""
-        texts, lasting = self.texts(), MAX_AGE_AND_EXPIRES if self.permanent else UNTIL_CLOSED
-        if self.saved is None or self.saved[:2] != (texts, lasting) or self.saved[2] is None:
-            self.source.texts, self.saved = texts, (texts, lasting, None)
+        wanted, (saved, text) = self.wanted(), self.saved
+        if text is None or wanted != saved:
+            self.source.texts, self.saved = wanted[0], (wanted, None)
             try:
-                self.saved = texts, lasting, self.sessions.save(self.source, lasting)
+                text = self.sessions.save(self.source, wanted[1])
             except FAILURES as error:
                 self.is_failed = True
                 raise http_error_of(error) from error
-        return cast(str, self.saved[2])
+            self.saved = wanted, text
+        return text
+
+    def wanted(self) -> tuple[dict[str, str], int, bytes]:
+        """What is saved: its texts, how long the browser keeps them, and its id."""
+        return self.texts(), MAX_AGE_AND_EXPIRES if self.permanent else UNTIL_CLOSED, self.source.id
 
     def texts(self) -> dict[str, str]:
         """The texts of its values. What wasn't used has the texts that it was opened from."""
         if self.modified or self.accessed or self.is_old:
-            items = dict.items(self)
-            return {name if type(name) is str else name_of(name): self.text_of(name, value) for name, value in items}
+            return {name_of(name): self.text_of(name, value) for name, value in dict.items(self)}
         return self.opened
 
     def text_of(self, name: Any, value: Any) -> str:
@@ -166,15 +157,8 @@ class FlaskSession(Opened, SecureCookieSession):
         """Whether it was changed, or a value within it."""
         return self.modified or self.texts() != self.opened
 
-    def is_refused(self) -> bool:
-        """Whether a check raised `TooLarge` for the values that it has."""
-        return self.saved is not None and self.saved[2] is None and self.saved[0] == self.texts()
 
-    def __repr__(self) -> str:
-        return f"<FlaskSession {list(self.keys())!r}>"
-
-
-def mark_of(value: Any) -> str | bytes | None:
+def mark_of(value: Any) -> Text | None:
     """The same for a value as long as it is the same, or None if it has other types than Python's own."""
     try:
         return value if type(value) is str else marshal.dumps(value, MARSHAL_VERSION)
@@ -188,11 +172,8 @@ def name_of(name: Any) -> str:
     >>> name_of("user"), name_of(None), name_of(3)
     ('user', 'null', '3')
     """
-    if isinstance(name, str):
-        return name
-    if name is None or isinstance(name, (int, float)):
-        return CODER.encode(name)
-    raise TypeError(f"a name is a str, a number, a bool or None, and not of the type {type(name).__name__}")
+    rule = "a name is a str, a number, a bool or None, and not of the type {}"
+    return name if isinstance(name, str) else CODER.encode(typed(name, (int, float, type(None)), rule))
 
 
 def without_escapes(text: str) -> str:
@@ -239,7 +220,7 @@ class UnopenedSession(RefusedSession):
 session = cast(FlaskSession, flask.session)
 
 
-class SessionInterface(FlaskSessionInterface):
+class SessionInterface(flasks.SessionInterface):
     """Keeps Flask's sessions. `keys` has keys of at least 64 random bytes, the newest first. Without it they are
     derived from the application's SECRET_KEY and SECRET_KEY_FALLBACKS, each of at least 32 bytes, and from `salt`.
 
@@ -252,18 +233,18 @@ class SessionInterface(FlaskSessionInterface):
     """
 
     session_class = FlaskSession
-    serializer: Any = tagged
-    salt: str | bytes | None = None
+    serializer: Any = flasks.session_json_serializer
+    salt: Text | None = None
 
     def __init__(
         self, keys: Sequence[bytes] | None = None, idle: int | None = None, clock: Callable[[], float] = time.time, *,
-        refresh: bool = False, migrate: bool = False, serializer: Any = None, salt: str | bytes | None = None,
+        refresh: bool = False, migrate: bool = False, serializer: Any = None, salt: Text | None = None,
         revocations: Revocations | None = None, compress: bool = False,
     ) -> None:
         if keys is not None and salt is not None:
             raise ValueError("a salt is for keys that are derived from secrets")
         self.keys, self.idle, self.clock, self.migrate = keys, idle, clock, migrate
-        self.refresh = checked_refresh(refresh)
+        self.refresh = typed(refresh, bool, A_REFRESH)
         self.serializer = self.serializer if serializer is None else serializer
         self.salt = self.salt if salt is None else salt
         self.revocations, self.compress = revocations, compress
@@ -284,17 +265,14 @@ class SessionInterface(FlaskSessionInterface):
         app.before_request(self.refuse_unopened)
         # Flask offers nothing between the view and the functions of `after_request`, and what these or `save_session`
         # raise no `errorhandler(TooLarge)` answers. So the call that makes the view's answer is replaced.
-        setattr(app, "dispatch_request", self.with_check(app, app.dispatch_request))
+        setattr(app, "dispatch_request", functools.partial(self.checked, app, app.dispatch_request))
 
-    def with_check(self, app: Flask, dispatch: Callable[..., Any]) -> Callable[..., Any]:
-        """The call of a view, which then checks the session, so that `errorhandler(TooLarge)` answers."""
-        def dispatch_request(*arguments: Any) -> Any:
-            answer, opened = dispatch(*arguments), self.opened_in(app)
-            if opened is not None:
-                opened.check()
-            return answer
-
-        return dispatch_request
+    def checked(self, app: Flask, dispatch: Callable[..., Any], *arguments: Any) -> Any:
+        """Calls a view, and then checks the session, so that `errorhandler(TooLarge)` answers."""
+        answer, opened = dispatch(*arguments), self.opened_in(app)
+        if opened is not None:
+            opened.check()
+        return answer
 
     def opened_in(self, app: Flask) -> FlaskSession | None:
         """The session that was opened for the request, if this keeps the application's sessions."""
@@ -311,23 +289,20 @@ class SessionInterface(FlaskSessionInterface):
         """The sessions of the application, by its keys and its settings as they are now."""
         lifetime = int(app.permanent_session_lifetime.total_seconds())
         same_site = self.get_cookie_samesite(app)
-        attributes = {
+        attributes: dict[str, Any] = {
             "path": self.get_cookie_path(app), "domain": self.get_cookie_domain(app),
             "secure": self.get_cookie_secure(app), "http_only": self.get_cookie_httponly(app),
             "same_site": same_site and same_site.title(),
             "partitioned": app.config.get("SESSION_COOKIE_PARTITIONED", False),
+            "revocations": self.revocations, "compress": self.compress,
         }
         derived: list[Any] = [app.secret_key or b"", *(app.config.get("SECRET_KEY_FALLBACKS") or ())]
         secrets = self.keys or derived
         idle = lifetime if self.idle is None else self.idle
         settings = (secrets, self.get_cookie_name(app), lifetime, idle, attributes)
-        latest = self.latest
-        if latest is None or latest[0] != settings:
+        if (latest := self.latest) is None or latest[0] != settings:
             keys = self.keys or keys_of(secrets, self.salt)
-            sessions = Sessions(
-                keys, *settings[1:4], **attributes, revocations=self.revocations, compress=self.compress
-            )
-            self.latest = latest = (settings, sessions)
+            self.latest = latest = (settings, Sessions(keys, *settings[1:4], **attributes))
         return latest[1]
 
     def open_session(self, app: Flask, request: Request) -> SessionMixin | None:
@@ -364,7 +339,7 @@ class SessionInterface(FlaskSessionInterface):
 
     def old_values(self, app: Flask, header: str) -> dict[str, Any] | None:
         """The values of a session of Flask's own class, or None."""
-        signer = SecureCookieSessionInterface().get_signing_serializer(app)
+        signer = flasks.SecureCookieSessionInterface().get_signing_serializer(app)
         lifetime, name = int(app.permanent_session_lifetime.total_seconds()), self.get_cookie_name(app)
         if signer is None:
             return None
@@ -417,20 +392,19 @@ class SessionInterface(FlaskSessionInterface):
         if not session:
             is_dropped = session.modified and not session.showed_revoked
             return session.sessions.end(session.source.now) if is_dropped else None
-        if not self.should_set_cookie(app, session) or session.is_refused():
-            return None
-        return session.save()
+        # What a check has refused isn't saved.
+        (saved, text), is_wanted = session.saved, self.should_set_cookie(app, session)
+        is_refused = saved and text is None and saved == session.wanted()
+        return session.save() if is_wanted and not is_refused else None
 
     def renew_at_login(self, app: Flask, **_: Any) -> None:
         """Starts the session anew at a login, if this keeps the application's sessions."""
-        opened = self.opened_in(app)
-        if opened is not None:
+        if (opened := self.opened_in(app)) is not None:
             opened.renew()
 
     def end_at_logout(self, app: Flask, **_: Any) -> None:
         """Revokes the session at a logout, if this keeps the application's sessions and which are revoked."""
-        opened = self.opened_in(app)
-        if opened is not None and self.revocations is not None:
+        if (opened := self.opened_in(app)) is not None and self.revocations is not None:
             opened.end()
 
 

@@ -62,8 +62,7 @@ class Cookies(Generic[Transport]):
 
     def read(self, address: Address | None, response: httpx.Response) -> None:
         """Reads the cookies of the response."""
-        fields = response.headers.raw
-        self.agent.read_all(address, (value for name, value in fields if name.lower() == b"set-cookie"))
+        self.agent.read_all(address, (text for name, text in response.headers.raw if name.lower() == b"set-cookie"))
 
 
 class CookieTransport(Cookies[httpx.BaseTransport], httpx.BaseTransport):

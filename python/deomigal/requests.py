@@ -36,8 +36,7 @@ def session_of(agent: Agent | None = None, *, context: Context = SAME_SITE) -> S
     ('en', b'lang=en')
     """
     session, adapter = Session(), CookieAdapter(agent, context=context)
-    cookies: Any = SessionCookies(adapter.agent)
-    session.cookies = cookies
+    session.cookies = SessionCookies(adapter.agent)
     for prefix in ("https://", "http://"):
         session.mount(prefix, adapter)
     return session
@@ -95,8 +94,7 @@ class CookieAdapter(Uncopied, HTTPAdapter):
         """Sends the request with the agent's cookies, and reads the cookies of the response."""
         request.headers.pop("Cookie", None)
         address = self.address_of(request.url or "")
-        header = self.agent.header_for(address, request.method or "", self.context)
-        if header:
+        if header := self.agent.header_for(address, request.method or "", self.context):
             # http.client prints a character as the byte of Latin-1.
             request.headers["Cookie"] = header.decode("latin-1")
         response = super().send(request, *arguments, **options)

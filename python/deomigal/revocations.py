@@ -16,6 +16,7 @@ import time
 import weakref
 from typing import Any, Awaitable, Callable, Iterable, Iterator, Protocol, Sequence, Union
 
+from ._library import typed
 from ._locks import Lock
 from ._steps import awaited, in_thread, run
 from .errors import RevocationsError
@@ -30,6 +31,8 @@ LONGEST = 0.05
 PATH_ONLY = getattr(os, "O_PATH", 0o10000000)
 # How many ids an SQLite statement looks up at most.
 AT_ONCE = 500
+# Connections that a fork carried along.
+LEFT: list[sqlite3.Connection] = []
 # How many seconds longer Redis keeps a key, whose clock may be ahead.
 SLACK = 3600
 
@@ -85,16 +88,13 @@ async def ask_async(revocations: Any, name: str, *words: Any) -> Any:
 
 def was_revoked(found: Any) -> bool:
     """What `revoke` returned: whether the id was revoked already."""
-    if not isinstance(found, bool):
-        raise TypeError("revoke of the revocations returns a bool: whether the id was revoked already")
-    return found
+    rule = "revoke of the revocations returns a bool: whether the id was revoked already"
+    return typed(found, bool, rule)  # type: ignore[no-any-return]
 
 
 def id_of(id: bytes) -> bytes:
     """The id's bytes, or an error if it isn't an id."""
-    if not isinstance(id, bytes):
-        raise TypeError(f"an id is bytes, and not of the type {type(id).__name__}")
-    if len(id) != ID_LENGTH:
+    if len(typed(id, bytes, "an id is bytes, and not of the type {}")) != ID_LENGTH:
         raise ValueError(f"an id has {ID_LENGTH} bytes, and not {len(id)}")
     return id
 
@@ -176,10 +176,6 @@ class Connection(Lock):
     before_fork = close
 
 
-# Connections that a fork carried along.
-LEFT: list[sqlite3.Connection] = []
-
-
 def connect(path: str, timeout: float, create: bool = False) -> sqlite3.Connection:
     """A new connection, over a file that has the table. It waits for a process that switches a new file to WAL at the
     same time, or closes it, which SQLite doesn't."""
@@ -205,11 +201,8 @@ def connect(path: str, timeout: float, create: bool = False) -> sqlite3.Connecti
 
 def rows(connection: sqlite3.Connection, statement: str, *values: Any) -> list[Any]:
     """The rows of a statement. Its transaction ends with its cursor, which PyPy doesn't close by itself."""
-    cursor = connection.execute(statement, values)
-    try:
+    with contextlib.closing(connection.execute(statement, values)) as cursor:
         return cursor.fetchall()
-    finally:
-        cursor.close()
 
 
 def tables(connection: sqlite3.Connection) -> list[str]:
@@ -268,10 +261,10 @@ class SqliteRevocations:
         """The rows of each statement, if the file is still at its path afterwards. The first connection is left to
         those that read: they wait for none. If another thread is in each, this waits for one."""
         connections = self.connections[first:]
-        connection = next((one for one in connections if one.inner.acquire(False)), None)
+        connection = next((one for one in connections if one.acquire(False)), None)
         if connection is None:
             connection = connections[0]
-            if not connection.inner.acquire(timeout=self.timeout):
+            if not connection.acquire(timeout=self.timeout):
                 raise RevocationsError(f"no connection to the file {self.path} was free for {self.timeout} seconds")
         try:
             if connection.opened is None:
@@ -287,7 +280,7 @@ class SqliteRevocations:
                 raise
             raise RevocationsError(f"the file {self.path} of revoked sessions: {error!r}") from error
         finally:
-            connection.inner.release()
+            connection.release()
 
     def check_file(self) -> None:
         """Raises an error if the file at the path isn't the one that was opened first."""

@@ -5,15 +5,10 @@ import hmac
 import os
 from typing import Iterable, Sequence
 
-from ._library import (
-    DERIVE_KEY, KEYS_FREE, KEYS_NEW, OPEN, SEAL, SIGN, VERIFY, OwnHandle, Uncopied, bytes_from, bytes_of, key_of,
-    perform, ring_of, text_or_none,
-)
-from ._locks import Lock
+from . import _library as library
+from ._library import OwnHandle, Text, Uncopied, bytes_from, bytes_of, key_of, perform, ring_of
 from .errors import MasterTooShort, NotSealed, NotSigned, NotUtf8
 
-# Only one call at a time may use a handle of keys. They are short, so all have one lock.
-LOCK = Lock()
 # The fewest bytes of a master key.
 SHORTEST = 32
 ADVICE = "python3 -c 'import secrets; print(secrets.token_hex(32))'"
@@ -25,10 +20,10 @@ def derive_key(master: bytes) -> bytes:
     >>> len(derive_key(b"a master key of at least 32 bytes"))
     64
     """
-    return bytes_from(DERIVE_KEY, key_of(master))
+    return bytes_from(library.DERIVE_KEY, key_of(master))
 
 
-def keys_of(secrets: Iterable[str | bytes], salt: str | bytes | None = None) -> list[bytes]:
+def keys_of(secrets: Iterable[Text], salt: Text | None = None) -> list[bytes]:
     """The keys that are derived from a site's secrets, in their order. Each secret has at least 32 random bytes. With
     another salt they are other keys (HMAC-SHA256 of the salt under the secret, RFC 2104). Raises `MasterTooShort`.
 
@@ -56,18 +51,16 @@ class Keys(Uncopied):
     """
 
     def __init__(self, keys: Sequence[bytes]) -> None:
-        self.handle = OwnHandle(KEYS_FREE)
-        perform(KEYS_NEW, ring_of(keys), self.handle)
+        self.handle: OwnHandle = library.Keys()
+        perform(library.KEYS_NEW, ring_of(keys), self.handle)
 
     def sign(self, name: str, value: str) -> str:
         """The signature of the value under the cookie's name, and then the value. Raises `NotUtf8`."""
-        with LOCK:
-            return bytes_from(SIGN, self.handle, name, value).decode()
+        return self.handle.text(library.SIGN, name, value).decode()
 
     def verify(self, name: str, text: str) -> str | None:
         """The value of a text that one of the keys signed under the name, or None."""
-        with LOCK:
-            return text_or_none(VERIFY, (NotSigned, NotUtf8), self.handle, name, text)
+        return self.handle.text_or_none((NotSigned, NotUtf8), library.VERIFY, name, text)
 
     def seal(self, name: str, value: str, nonce: bytes | None = None) -> str:
         """The value, encrypted under the cookie's name. Twelve random bytes are drawn, unless you pass in such a nonce.
@@ -76,13 +69,11 @@ class Keys(Uncopied):
         `TooLong` or `BadNonce`.
         """
         drawn = os.urandom(12) if nonce is None else key_of(nonce, "a nonce is bytes")
-        with LOCK:
-            return bytes_from(SEAL, self.handle, drawn, name, value).decode()
+        return self.handle.text(library.SEAL, drawn, name, value).decode()
 
     def open(self, name: str, text: str) -> str | None:
         """The value of a text that one of the keys sealed under the name, or None."""
-        with LOCK:
-            return text_or_none(OPEN, (NotSealed, NotUtf8), self.handle, name, text)
+        return self.handle.text_or_none((NotSealed, NotUtf8), library.OPEN, name, text)
 
 
 def sign(key: bytes, name: str, value: str) -> str:

@@ -6,12 +6,8 @@ import enum
 import os
 from typing import Any, Callable, Iterator, MutableMapping, Sequence, cast
 
-from ._library import (
-    DONE, OPENED_FREE, OPENED_IDS, OPENED_NEW, OPENED_TAKE, SESSION_DESCRIBE, SESSION_END, SESSION_FREE,
-    SESSION_GIVEN, SESSION_LIST, SESSION_LOG_OUT, SESSION_MUST_SAVE, SESSION_OPEN, SESSION_REMOVE, SESSION_RENEW,
-    SESSION_REPLACE, SESSION_SAVE, SESSION_SET, SESSION_START, SESSIONS_FREE, SESSIONS_NEW, OwnHandle,
-    SessionSettings, Uncopied, bytes_from, checked, header_of, listed, perform, ring_of,
-)
+from . import _library as library
+from ._library import OwnHandle, Text, Uncopied, bytes_from, check, checked, header_of, listed, perform, ring_of, typed
 from ._locks import Lock
 from ._steps import run
 from .compression import kept_of, texts_of
@@ -22,6 +18,7 @@ from .revocations import ID_LENGTH, AnyRevocations, Ask, ask, ask_async, was_rev
 
 # Room for a cookie that a browser stores, and for its texts.
 ROOM = 10000
+A_LOOK_UP = bool, "a look-up returns a bool, and not a value of the type {}", RevocationsError
 
 
 class Lasting(enum.IntEnum):
@@ -34,8 +31,7 @@ class Lasting(enum.IntEnum):
     UNTIL_CLOSED = 2
 
 
-MAX_AGE, MAX_AGE_AND_EXPIRES = Lasting.MAX_AGE, Lasting.MAX_AGE_AND_EXPIRES
-UNTIL_CLOSED = Lasting.UNTIL_CLOSED
+MAX_AGE, MAX_AGE_AND_EXPIRES, UNTIL_CLOSED = tuple(Lasting)
 
 
 class Generations:
@@ -87,15 +83,13 @@ class Session(Generations, MutableMapping[str, str]):
     kind = str
 
     def __init__(self, now: int) -> None:
-        if not isinstance(now, int):
-            raise TypeError("a second is an int")
-        self.now = whole_second(now)
+        self.now = whole_second(typed(now, int, "a second is an int"))
         self.begin()
 
     def begin(self) -> None:
         """Makes it a new session without texts, of which the browser has none."""
         # What the library keeps of the session, once it is opened or saved: also which one the browser has.
-        self.handle, self.place = OwnHandle(SESSION_FREE), cast("int | None", None)
+        self.handle, self.place = library.Session(), cast("int | None", None)
         # The header that it was opened from, or its saved cookie; and the revoked ids in it, once they are looked up.
         self.header, self.revoked = b"", cast("bytes | None", None)
         self.texts: dict[str, str] = {}
@@ -127,7 +121,7 @@ class Session(Generations, MutableMapping[str, str]):
 
     def describe(self) -> None:
         """Has the id and the times that the library tells of it."""
-        facts = SESSION_DESCRIBE(self.handle)
+        facts = library.SESSION_DESCRIBE(self.handle)
         self.id, self.started, self.seen = bytes(facts.id), facts.started, facts.seen
         self.end, self.idle = facts.end, facts.idle
         self.place = facts.index if facts.is_opened else self.place
@@ -137,9 +131,8 @@ class Session(Generations, MutableMapping[str, str]):
         return self.texts[name]
 
     def __setitem__(self, name: str, text: str) -> None:
-        if not isinstance(name, str) or not isinstance(text, str):
-            raise TypeError("a session has texts by name, each of them a str")
-        self.texts[name] = text
+        rule = "a session has texts by name, each of them a str"
+        self.texts[typed(name, str, rule)] = typed(text, str, rule)
 
     def __delitem__(self, name: str) -> None:
         del self.texts[name]
@@ -157,7 +150,7 @@ class Session(Generations, MutableMapping[str, str]):
 
     def __setstate__(self, state: dict[str, Any]) -> None:
         self.__dict__.update(state)
-        self.handle = OwnHandle(SESSION_FREE)
+        self.handle = library.Session()
 
     def __repr__(self) -> str:
         return f"<Session {list(self.texts)!r}>"
@@ -196,9 +189,7 @@ class Sessions(Uncopied):
         partitioned: bool = False, revocations: AnyRevocations | None = None, compress: bool = False,
     ) -> None:
         ring = ring_of(keys)
-        if not isinstance(lifetime, int) or not isinstance(idle, int):
-            raise TypeError("a limit is an int of seconds")
-        if not all(0 <= limit < 2**32 for limit in (lifetime, idle)):
+        if not all(0 <= typed(limit, int, "a limit is an int of seconds") < 2**32 for limit in (lifetime, idle)):
             raise OverflowError("a limit has at most 32 bits")
         if revocations is not None and not all(hasattr(revocations, name) for name in ("is_revoked", "revoke")):
             raise TypeError("revocations have calls is_revoked and revoke")
@@ -208,10 +199,12 @@ class Sessions(Uncopied):
             partitioned=partitioned or None,
         ).encode()
         self.name = cookie.partition(b"=")[0].decode()
-        self.handle = OwnHandle(SESSIONS_FREE)
-        # Only one call at a time may use the handle and the buffer, which has room for the cookie's attributes too.
-        self.lock, self.buffer = Lock(), cast(Any, ctypes.create_string_buffer(ROOM + len(cookie)))
-        perform(SESSIONS_NEW, SessionSettings(ring, len(ring), cookie, len(cookie), lifetime, idle), self.handle)
+        self.handle: OwnHandle = library.Sessions()
+        # For the handle and the buffer, which has room for the cookie's attributes too.
+        self.handle.lock = self.lock = Lock()
+        self.buffer: Any = ctypes.create_string_buffer(ROOM + len(cookie))
+        settings = library.SessionSettings(ring, len(ring), cookie, len(cookie), lifetime, idle)
+        perform(library.SESSIONS_NEW, settings, self.handle)
         self.save(self.start())
 
     def start(self, now: float | None = None) -> Session:
@@ -221,7 +214,7 @@ class Sessions(Uncopied):
         """
         return Session(now if isinstance(now, int) else whole_second(now))
 
-    def open(self, header: str | bytes | None, now: float | None = None) -> Session:
+    def open(self, header: Text | None, now: float | None = None) -> Session:
         """The session in a request's `Cookie` header, or a new one if the header has no open session, or is None.
 
         A session isn't open if it isn't encrypted under one of the keys, is over, or is revoked. Of several cookies of
@@ -234,14 +227,10 @@ class Sessions(Uncopied):
         >>> sessions.open(cookie, now=1445414279).is_new, sessions.open(cookie, now=1445414280).is_new
         (False, True)
         """
-        return run(self.opening(header, now, ask))
+        return run(self.aopen(header, now, ask))
 
-    async def aopen(self, header: str | bytes | None, now: float | None = None) -> Session:
+    async def aopen(self, header: Text | None, now: float | None = None, ask: Ask = ask_async) -> Session:
         """The same in a coroutine. The revocations' calls are awaited, or made in a worker thread."""
-        return await self.opening(header, now, ask_async)
-
-    async def opening(self, header: str | bytes | None, now: float | None, ask: Ask) -> Session:
-        """Opens the session in a request's header."""
         session = self.start(now)
         session.header = header_of(header)
         try:
@@ -253,7 +242,7 @@ class Sessions(Uncopied):
         session.describe()
         session.is_renewed = False
         with self.lock:
-            session.kept = dict(listed(bytes_from(SESSION_LIST, session.handle, buffer=self.buffer)))
+            session.kept = dict(listed(bytes_from(library.SESSION_LIST, session.handle, buffer=self.buffer)))
         try:
             session.texts = dict(texts_of(session.kept))
         except ValueError:
@@ -265,21 +254,17 @@ class Sessions(Uncopied):
     async def fill(self, session: Session, ask: Ask) -> None:
         """Opens the session of its header for its handle. For a copy the revocations were asked before."""
         if self.revocations is None and not session.revoked:
-            session.revoked = b""
-            header = session.header
+            session.revoked, header = b"", session.header
             with self.lock:
-                status = SESSION_OPEN(self.handle, header, len(header), session.now, session.handle)
-            if status != DONE:
-                raise error_of(status)
+                check(library.SESSION_OPEN(self.handle, header, len(header), session.now, session.handle))
             return
-        opened = OwnHandle(OPENED_FREE)
-        with self.lock:
-            perform(OPENED_NEW, self.handle, session.header, session.now, opened)
+        opened = library.Opened()
+        self.handle.perform(library.OPENED_NEW, session.header, session.now, opened)
         if session.revoked is None:
-            ids = bytes_from(OPENED_IDS, opened)
+            ids = bytes_from(library.OPENED_IDS, opened)
             each = list(dict.fromkeys(ids[at : at + ID_LENGTH] for at in range(0, len(ids), ID_LENGTH)))
             session.revoked = await self.revoked_of(each, ask)
-        perform(OPENED_TAKE, opened, session.revoked, session.handle)
+        perform(library.OPENED_TAKE, opened, session.revoked, session.handle)
 
     async def revoked_of(self, each: list[bytes], ask: Ask) -> bytes:
         """Those of the ids that are revoked, or only those before the first that isn't."""
@@ -288,9 +273,9 @@ class Sessions(Uncopied):
             found = await ask(self.revocations, "are_revoked", each)
             if not isinstance(found, list) or len(found) != len(each):
                 raise RevocationsError("are_revoked returns a list with a bool for each id")
-            return b"".join(id for id, is_revoked in zip(each, found) if is_true(is_revoked))
+            return b"".join(id for id, is_revoked in zip(each, found) if typed(is_revoked, *A_LOOK_UP))
         for id in each:
-            if not is_true(await ask(self.revocations, "is_revoked", id)):
+            if not typed(await ask(self.revocations, "is_revoked", id), *A_LOOK_UP):
                 break
             revoked += id
         return revoked
@@ -314,32 +299,27 @@ class Sessions(Uncopied):
         >>> sessions.open(cookie).is_new
         True
         """
-        return run(self.revoking(session, ask))
+        return run(self.arevoke(session, ask))
 
-    async def arevoke(self, session: Session) -> bool:
+    async def arevoke(self, session: Session, ask: Ask = ask_async) -> bool:
         """The same in a coroutine, as `aopen`."""
-        return await self.revoking(session, ask_async)
-
-    async def revoking(self, session: Session, ask: Ask) -> bool:
-        """Revokes what the browser has, if it has something, and makes the session a new one."""
         if self.revocations is None:
             raise RuntimeError("these sessions can't be revoked: they are made without `revocations`")
         await self.reopen(session, ask)
-        if SESSION_GIVEN(session.handle).status != DONE:
+        if library.SESSION_GIVEN(session.handle).status != library.DONE:
             return False
-        await self.spend(session, ask, SESSION_LOG_OUT)
+        await self.spend(session, ask, library.SESSION_LOG_OUT)
         session.begin()
         return True
 
     async def spend(self, session: Session, ask: Ask, tell: Callable[..., int]) -> None:
         """Revokes what the browser has, and tells the library so. Raises `Gone` if it was revoked already."""
-        was, given = False, SESSION_GIVEN(session.handle)
+        was, given = False, library.SESSION_GIVEN(session.handle)
         if self.revocations is not None:
             was = was_revoked(await ask(self.revocations, "revoke", bytes(given.id), given.end))
         status = tell(session.handle, session.now, was)
-        if status != DONE:
-            # Another call for this object may have come first, so that the handle has none any more.
-            raise error_of(Gone.status if was else status)
+        # Another call for this object may have come first, so that the handle has none any more.
+        check(Gone.status if status and was else status)
 
     async def reopen(self, session: Session, ask: Ask) -> None:
         """Opens the session of a copy for its handle, as it was opened or saved."""
@@ -347,7 +327,7 @@ class Sessions(Uncopied):
             await self.fill(session, ask)
             session.known = session.kept = None
             # What was renewed since has another id.
-            session.is_started = bytes(SESSION_DESCRIBE(session.handle).id) == session.id
+            session.is_started = bytes(library.SESSION_DESCRIBE(session.handle).id) == session.id
 
     def save(self, session: Session, lasting: int = MAX_AGE) -> str:
         """The value of the `Set-Cookie` header that saves the session, encrypted under the newest key. The browser
@@ -371,19 +351,15 @@ class Sessions(Uncopied):
         ...     print(error.size > 4096)
         True
         """
-        return run(self.saving(session, ask, lasting))
+        return run(self.asave(session, lasting, ask))
 
-    async def asave(self, session: Session, lasting: int = MAX_AGE) -> str:
+    async def asave(self, session: Session, lasting: int = MAX_AGE, ask: Ask = ask_async) -> str:
         """The same in a coroutine, as `aopen`."""
-        return await self.saving(session, ask_async, lasting)
-
-    async def saving(self, session: Session, ask: Ask, lasting: int = MAX_AGE) -> str:
-        """Saves the session, once what it replaces is revoked."""
         await self.prepare(session, ask)
         try:
             text = self.text_of(session, lasting)
         except Replaces:
-            await self.spend(session, ask, SESSION_REPLACE)
+            await self.spend(session, ask, library.SESSION_REPLACE)
             text = self.text_of(session, lasting)
         # A copy of it opens this cookie again.
         session.header, session.revoked = text.partition(";")[0].encode(), b""
@@ -391,15 +367,13 @@ class Sessions(Uncopied):
 
     async def prepare(self, session: Session, ask: Ask) -> None:
         """Has the library know of the session what this object does."""
-        if not isinstance(session, Session):
-            raise TypeError("what is saved is a Session")
-        await self.reopen(session, ask)
+        await self.reopen(typed(session, Session, "what is saved is a Session"), ask)
         if not (session.is_started and session.handle.is_open):
             with self.lock:
                 if session.handle.is_open:
-                    perform(SESSION_RENEW, self.handle, session.handle, session.id, session.now)
+                    perform(library.SESSION_RENEW, self.handle, session.handle, session.id, session.now)
                 else:
-                    perform(SESSION_START, self.handle, session.id, session.now, session.handle)
+                    perform(library.SESSION_START, self.handle, session.id, session.now, session.handle)
                     session.known, session.kept = {}, {}
             session.describe()
         if session.texts != session.known:
@@ -410,23 +384,22 @@ class Sessions(Uncopied):
         try:
             texts = kept_of(session.texts, self.compress)
         except UnicodeEncodeError:
-            # A lone surrogate.
             raise error_of(NotUtf8.status) from None
         kept, session.known, session.kept = session.kept, None, None
         if kept is None:
-            kept = dict(listed(bytes_from(SESSION_LIST, session.handle, room=ROOM)))
+            kept = dict(listed(bytes_from(library.SESSION_LIST, session.handle, room=ROOM)))
         for name in kept.keys() - texts.keys():
-            perform(SESSION_REMOVE, session.handle, name)
+            perform(library.SESSION_REMOVE, session.handle, name)
         for name, text in texts.items():
             if kept.get(name) != text:
-                perform(SESSION_SET, session.handle, name, text)
+                perform(library.SESSION_SET, session.handle, name, text)
         session.known, session.kept = dict(session.texts), dict(texts)
 
     def text_of(self, session: Session, lasting: int) -> str:
         """The text of the session's cookie, under a nonce of its own."""
         with self.lock:
             buffer, words = self.buffer, (lasting, os.urandom(12), 12, session.now)
-            answer = SESSION_SAVE(self.handle, session.handle, *words, buffer, len(buffer))
+            answer = library.SESSION_SAVE(self.handle, session.handle, *words, buffer, len(buffer))
             text: bytes = buffer[: answer.length]
         checked(answer)
         return text.decode()
@@ -434,8 +407,9 @@ class Sessions(Uncopied):
     def check(self, session: Session) -> None:
         """Raises what `save` raises for the session as it is now, but asks no store and revokes nothing."""
         run(self.prepare(session, ask))
+        words = MAX_AGE, os.urandom(12), 12, session.now, None, 0
         with self.lock:
-            answer = SESSION_SAVE(self.handle, session.handle, MAX_AGE, os.urandom(12), 12, session.now, None, 0)
+            answer = library.SESSION_SAVE(self.handle, session.handle, *words)
         # Without room nothing is given.
         if answer.status not in (BufferTooShort.status, Replaces.status):
             raise error_of(answer.status, answer.length)
@@ -460,7 +434,7 @@ class Sessions(Uncopied):
             return False
         run(self.prepare(session, ask))
         with self.lock:
-            need = SESSION_MUST_SAVE(self.handle, session.handle, session.now)
+            need = library.SESSION_MUST_SAVE(self.handle, session.handle, session.now)
         return bool(checked(need).must_save)
 
     def end(self, now: float | None = None) -> str:
@@ -471,15 +445,7 @@ class Sessions(Uncopied):
         >>> sessions.end(now=1445412480)
         'session=; HttpOnly; SameSite=Lax; Secure; Path=/; Max-Age=0; Expires=Tue, 21 Oct 2014 07:28:00 GMT'
         """
-        with self.lock:
-            return bytes_from(SESSION_END, self.handle, whole_second(now)).decode()
-
-
-def is_true(found: Any) -> bool:
-    """What a look-up returned. Raises `RevocationsError` if it isn't a bool."""
-    if not isinstance(found, bool):
-        raise RevocationsError(f"a look-up returns a bool, and not a value of the type {type(found).__name__}")
-    return found
+        return self.handle.text(library.SESSION_END, whole_second(now)).decode()
 
 
 def generation_of(number: int) -> int:

@@ -4,12 +4,13 @@ from __future__ import annotations
 import os
 from typing import Any, NamedTuple, Sequence
 
-from ._library import TOKEN_MAKE, TOKEN_READ, TokenSettings, Uncopied, answer_and_bytes, bytes_from, bytes_of, checked
+from . import _library as library
+from ._library import Text, Uncopied, answer_and_bytes, bytes_of, checked
 from ._steps import run
 from .dates import whole_second
 from .errors import NotSealed, NotUtf8
 from .revocations import AnyRevocations, Ask, ask, ask_async, was_revoked
-from .secrets import LOCK, Keys
+from .secrets import Keys
 
 ROOM = 256
 
@@ -48,25 +49,23 @@ class Tokens(Uncopied):
         """The settings with this lifetime."""
         if not 0 <= lifetime < 2**32:
             raise OverflowError("a lifetime has at most 32 bits")
-        return TokenSettings(self.purpose, len(self.purpose), lifetime)
+        return library.TokenSettings(self.purpose, len(self.purpose), lifetime)
 
     def make(self, value: str, now: float | None = None) -> str:
         """A token of the value. `now` is in seconds since 1970; without it the clock's time counts.
 
         Make at most 2^32 under one key (SP 800-38D 8.3). Raises `NotUtf8`, `TooLong` or `NoDate`.
         """
-        nonce, room = os.urandom(12), len(value) + ROOM
-        with LOCK:
-            text = bytes_from(TOKEN_MAKE, self.keys.handle, self.settings, value, nonce, whole_second(now), room=room)
-        return text.decode()
+        words, room = (self.settings, value, os.urandom(12), whole_second(now)), len(value) + ROOM
+        return self.keys.handle.text(library.TOKEN_MAKE, *words, room=room).decode()
 
-    def read(self, token: str | bytes, now: float | None = None, *, max_age: int | None = None) -> str | None:
+    def read(self, token: Text, now: float | None = None, *, max_age: int | None = None) -> str | None:
         """The value of a token that `make` made for the same purpose under one of the keys, or None if it is over:
         `lifetime` or `max_age` seconds after it was made, or at the end that it was made with. Raises `NoDate`."""
         found = self.open(token, now, max_age=max_age)
         return found.value if found else None
 
-    def open(self, token: str | bytes, now: float | None = None, *, max_age: int | None = None) -> Token | None:
+    def open(self, token: Text, now: float | None = None, *, max_age: int | None = None) -> Token | None:
         """What `read` returns, with the times and the id of the token.
 
         >>> from deomigal import derive_key
@@ -76,15 +75,15 @@ class Tokens(Uncopied):
         ('ann', 1445412480, 1445416080)
         """
         settings = self.settings if max_age is None else self.settings_for(min(max_age, self.settings.lifetime))
-        words = self.keys.handle, settings, token, whole_second(now)
-        with LOCK:
-            reading, value = answer_and_bytes(TOKEN_READ, *words, room=ROOM)
+        handle, second = self.keys.handle, whole_second(now)
+        with handle.lock:
+            reading, value = answer_and_bytes(library.TOKEN_READ, handle, settings, token, second, room=ROOM)
         if reading.status in (NotSealed.status, NotUtf8.status):
             return None
         return Token(value.decode(), checked(reading).made, reading.end, bytes(reading.id))
 
     def read_once(
-        self, token: str | bytes, revocations: AnyRevocations, now: float | None = None, *, max_age: int | None = None
+        self, token: Text, revocations: AnyRevocations, now: float | None = None, *, max_age: int | None = None
     ) -> str | None:
         """The value of a token, as `read` returns it, or None too if it was read before: `revocations` keep that until
         its end. Of two calls at the same moment one gets the value. Raises `RevocationsError` if that can't be kept.
@@ -96,19 +95,14 @@ class Tokens(Uncopied):
         >>> resets.read_once(token, revocations), resets.read_once(token, revocations)
         ('ann', None)
         """
-        return run(self.reading_once(token, revocations, now, max_age, ask))
+        return run(self.aread_once(token, revocations, now, max_age=max_age, ask=ask))
 
     async def aread_once(
-        self, token: str | bytes, revocations: AnyRevocations, now: float | None = None, *, max_age: int | None = None
+        self, token: Text, revocations: AnyRevocations, now: float | None = None, *, max_age: int | None = None,
+        ask: Ask = ask_async,
     ) -> str | None:
         """The same in a coroutine. The revocations' calls are awaited, or made in a worker thread."""
-        return await self.reading_once(token, revocations, now, max_age, ask_async)
-
-    async def reading_once(
-        self, token: str | bytes, revocations: AnyRevocations, now: float | None, max_age: int | None, ask_by: Ask
-    ) -> str | None:
-        """Reads a token once, by what the revocations answer."""
         found = self.open(token, now, max_age=max_age)
-        if found is None or was_revoked(await ask_by(revocations, "revoke", found.id, found.end)):
+        if found is None or was_revoked(await ask(revocations, "revoke", found.id, found.end)):
             return None
         return found.value

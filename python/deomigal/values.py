@@ -8,6 +8,7 @@ import logging
 import time
 from typing import TYPE_CHECKING, Any, Callable, Dict, Iterable, Mapping, MutableMapping, Union
 
+from ._library import Text, typed
 from .compression import MARKS
 from .errors import Gone, RevocationsError
 from .revocations import AnyRevocations, Ask
@@ -25,6 +26,7 @@ Failure = Union[RevocationsError, Gone]
 FAILURES = (RevocationsError, Gone)
 LOG = logging.getLogger("deomigal")
 FORTNIGHT = 14 * 24 * 3600
+A_REFRESH = "refresh is a bool: whether each request that used the session saves it"
 # How the values of a session are printed: as they are, or in ASCII, with escapes.
 CODER = json.JSONEncoder(separators=(",", ":"), ensure_ascii=False)
 ASCII_CODER = json.JSONEncoder(separators=(",", ":"))
@@ -70,13 +72,6 @@ def unpack(texts: Mapping[str, str]) -> bytes:
     raise ValueError("these texts aren't a session of values")
 
 
-def checked_refresh(refresh: bool) -> bool:
-    """Whether each request that used a session saves it."""
-    if not isinstance(refresh, bool):
-        raise TypeError("refresh is a bool: whether each request that used the session saves it")
-    return refresh
-
-
 class Opened(Generations):
     """What sessions of values share that were opened from a session: what is known of that."""
 
@@ -97,6 +92,20 @@ class Opened(Generations):
         """Whether the request has only revoked sessions, and this one, which is new, wasn't renewed since. It isn't
         saved then: the request may be an old tab's, whose browser has another session by now."""
         return self.source.shows_revoked
+
+    def renew(self) -> None:
+        """Starts it anew with the same values and another id, so that the lifetime counts from this request. Call it at
+        a login, and on a page that keeps something for one. With `revocations` the old session opens no more."""
+        self.source.renew()
+        self.modified = self.accessed = True
+
+    def __repr__(self: Any) -> str:
+        return f"<{type(self).__name__} {list(dict.keys(self))!r}>"
+
+    def clear(self: Any) -> None:
+        """Drops the values, and starts it anew. A copy of its cookie stays open: at a logout call `revoke`."""
+        super().clear()  # type: ignore[misc]
+        self.renew()
 
 
 def counted(kind: type, name: str) -> Any:
@@ -151,24 +160,10 @@ class CookieSession(Opened, Mapped):
         self.accessed = True
         return dict, (dict(dict.items(self)),)
 
-    def __repr__(self) -> str:
-        return f"<CookieSession {list(dict.keys(self))!r}>"
-
     @property
     def is_new(self) -> bool:
         """Whether the request has no open session."""
         return self.source.is_new
-
-    def renew(self) -> None:
-        """Starts it anew with the same values and another id, so that the lifetime counts from this request. Call it at
-        a login, and on a page that keeps something for one. With `revocations` the old session opens no more."""
-        self.accessed = True
-        self.source.renew()
-
-    def clear(self) -> None:
-        """Drops the values, and starts it anew. A copy of its cookie stays open: at a logout call `revoke`."""
-        super().clear()
-        self.renew()
 
     def revoke(self) -> bool:
         """Logs the visitor out: revokes what the browser has, in each copy of its cookie, drops the values, and has the
@@ -181,14 +176,13 @@ class CookieSession(Opened, Mapped):
 
     def drop_values(self, is_ended: bool) -> bool:
         """Drops the values after a logout. Returns whether the browser had a session."""
-        super().clear()
+        super(Opened, self).clear()
         self.is_ended = self.is_ended or is_ended
         return is_ended
 
     def check(self) -> None:
         """Raises `TooLarge` now, and not where the response starts, if no browser would store the session."""
-        data = self.json()
-        if data not in (self.opened, EMPTY):
+        if (data := self.json()) not in (self.opened, EMPTY):
             self.source.texts = pack(data)
             self.sessions.check(self.source)
 
@@ -203,9 +197,7 @@ class CookieSession(Opened, Mapped):
 
 def session_at(place: Mapping[str, Any], key: str) -> CookieSession:
     """The session there, which a middleware opened. Raises `TypeError` if there is none."""
-    session = place.get(key)
-    if not isinstance(session, CookieSession):
-        raise TypeError("there is no session of SessionMiddleware here")
+    session: CookieSession = typed(place.get(key), CookieSession, "there is no session of SessionMiddleware here")
     return session
 
 
@@ -224,16 +216,16 @@ class Middleware:
         self, app: Callable[..., Any], secret_key: Any, session_cookie: str = "session",
         max_age: int | None = FORTNIGHT, path: str = "/", same_site: str = "lax", https_only: bool = False,
         domain: str | None = None, *, http_only: bool = True, partitioned: bool = False,
-        fallbacks: Iterable[str | bytes] = (), salt: str | bytes = "deomigal.middleware", idle: int | None = None,
+        fallbacks: Iterable[Text] = (), salt: Text = "deomigal.middleware", idle: int | None = None,
         refresh: bool = False, clock: Callable[[], float] = time.time, revocations: AnyRevocations | None = None,
         too_large: Callable[..., Any] | None = None, compress: bool = False,
     ) -> None:
         # Starlette's `Secret` shows its text only by `str`.
-        newest: str | bytes = secret_key if isinstance(secret_key, bytes) else str(secret_key)
+        newest: Text = secret_key if isinstance(secret_key, bytes) else str(secret_key)
         lifetime = FORTNIGHT if max_age is None else max_age
         self.app, self.clock, self.too_large = app, clock, too_large
         self.lasting = UNTIL_CLOSED if max_age is None else MAX_AGE_AND_EXPIRES
-        self.refresh = checked_refresh(refresh)
+        self.refresh = typed(refresh, bool, A_REFRESH)
         self.sessions = Sessions(
             keys_of([newest, *fallbacks], salt), session_cookie, lifetime, lifetime if idle is None else idle,
             path=path, domain=domain, secure=https_only, http_only=http_only, same_site=same_site.title(),
@@ -282,4 +274,4 @@ class Middleware:
         # What was changed must be saved.
         if not (is_changed or self.refresh or self.sessions.must_save(source)):
             return None
-        return await self.sessions.saving(source, ask, self.lasting)
+        return await self.sessions.asave(source, self.lasting, ask)

@@ -15,7 +15,7 @@ from urllib.parse import quote, unquote_to_bytes
 
 from werkzeug.datastructures import MultiDict
 
-from ._library import wire_bytes
+from ._library import DONE, Text, check, typed, wire_bytes
 from .cookies import pairs, print_cookie
 from .dates import date_at, read_date
 from .errors import BadAttribute, EmptyName, NoDate, error_of
@@ -43,14 +43,9 @@ def dump_cookie(
     >>> dump_cookie("theme", "dark blue", max_age=60, sync_expires=False, httponly=True, samesite="lax")
     'theme=dark%20blue; Max-Age=60; HttpOnly; Path=/; SameSite=Lax'
     """
-    if not key:
-        raise error_of(EmptyName.status)
-    if samesite == "":
-        raise error_of(BadAttribute.status)
+    check(EmptyName.status if not key else BadAttribute.status if samesite == "" else DONE)
     if domain:
-        if not isinstance(domain, str):
-            raise TypeError("a domain is a str")
-        domain = domain.partition(":")[0].lstrip(".").encode("idna").decode("ascii")
+        domain = typed(domain, str, "a domain is a str").partition(":")[0].lstrip(".").encode("idna").decode("ascii")
     age = int(max_age.total_seconds()) if isinstance(max_age, datetime.timedelta) else max_age
     text = print_cookie(
         print_cookie(key, "").rpartition("=")[0], quote(value, safe=ALLOWED), is_escaped=False,
@@ -75,14 +70,13 @@ def expiry(expires: Expiry, age: int | None) -> datetime.datetime | None:
         return date_at(max(expires, 0))
     if not isinstance(expires, str):
         return expires
-    moment = read_date(expires)
-    if moment is None:
+    if (moment := read_date(expires)) is None:
         raise error_of(NoDate.status)
     return moment
 
 
 def parse_cookie(
-    header: Mapping[str, Any] | str | bytes | None = None, cls: Callable[[list[tuple[str, str]]], Any] | None = None,
+    header: Mapping[str, Any] | Text | None = None, cls: Callable[[list[tuple[str, str]]], Any] | None = None,
     *, keep_quotes: bool = False,
 ) -> Any:
     """The names and values in a `Cookie` header, or in that of a WSGI environment, in their order, by default in a
@@ -95,26 +89,19 @@ def parse_cookie(
     {'theme': 'dark blue', 'note': 'a,b'}
     """
     text = header.get("HTTP_COOKIE") if isinstance(header, Mapping) else header
-    read = [
-        (unquote_to_bytes(name), value.encode() if keep_quotes and is_quoted(value) else decoded(value))
-        for name, value in pairs(wire_bytes(text) if isinstance(text, str) else text)
-    ]
     found = []
-    for name, value in read:
+    for name, value in pairs(wire_bytes(text) if isinstance(text, str) else text):
         with contextlib.suppress(UnicodeDecodeError):
-            found.append((name.decode(), value.decode()))
+            found.append((unquote_to_bytes(name).decode(), decoded(value, keep_quotes).decode()))
     return MultiDict(found) if cls is None else cls(found)
 
 
-def is_quoted(value: str) -> bool:
-    """Whether the value is in quotes."""
-    return len(value) >= 2 and value[0] == value[-1] == '"'
-
-
-def decoded(value: str) -> bytes:
-    """The bytes of a value, without its quotes and escapes."""
-    if not is_quoted(value):
+def decoded(value: str, keep_quotes: bool) -> bytes:
+    """The bytes of a value, without its escapes and its quotes, unless these are to be kept."""
+    if len(value) < 2 or not value[0] == value[-1] == '"':
         return unquote_to_bytes(value)
+    if keep_quotes:
+        return value.encode()
     # After a backslash is the number of a byte, or the byte.
     text, escaped = value[1:-1].encode(), rb"(?s)\\(?:([0-3][0-7]{2})|(.))"
     return re.sub(escaped, lambda found: found[2] or bytes([int(found[1], 8)]), text)
