@@ -97,13 +97,6 @@ pub apart-stored : (now : DateTime) (x : KeptView) (xs : CookieStore) → IsApar
 apart-stored now x xs apart =
     apart-filter (λ c. lasts c.expiry now) (kept_with x (lasting now xs)) (apart-put x (lasting now xs) (apart-filter (λ c. lasts c.expiry now) xs apart))
 
--- what was told of the element at a place
-pub told_at : (x : KeptView) (now : DateTime) (xs : CookieStore) (i : ℕ) (old : KeptView) (b : Bool) → old ≡ get_or xs i old → i < length xs → b ≡ gives_place x now old → (d : KeptView)
-    → gives_place x now (get_or xs i d) ≡ b
-told_at x now [] i old b e below h d = absurd (omega arith)
-told_at x now (y ∷ xs) zero old b e below h d = ap (gives_place x now) (sym e) ∙ sym h
-told_at x now (y ∷ xs) (suc i) old b e below h d = told_at x now xs i old b e (omega arith) h d
-
 -- an access leaves the keys
 
 same_accessed : (site : RequestView) (now : DateTime) (a b : KeptView) → is_same_cookie (accessed site now a) (accessed site now b) ≡ is_same_cookie a b

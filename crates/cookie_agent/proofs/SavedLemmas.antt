@@ -1,7 +1,7 @@
 -- Stored cookies in a text of lines: a walk over cookies or lines, one after the other.
-use Rattle.std.proofs.Common.{◌≡◌, ℕ, ◌+◌, ◌<◌, ◌≤◌, ◌&&◌, Bool, true, false, not, cond, List, [], ◌∷◌, ◌++◌, length, get_or, drop, map, refl, sym, ap, ◌∙◌, append_assoc}
+use Rattle.std.proofs.Common.{◌≡◌, ℕ, ◌+◌, ◌&&◌, Bool, true, false, not, cond, List, [], ◌∷◌, ◌++◌, map, refl, sym, ap, ◌∙◌, append_assoc}
 use Rattle.std.proofs.lemmas.Bool.{and_from, and_right, or_parts}
-use Rattle.std.proofs.lemmas.List.{append-nil, at_drop_all, drop_more, map-append}
+use Rattle.std.proofs.lemmas.List.{append-nil, map-append}
 use Rattle.std.proofs.lemmas.List.Elements.{filter-append}
 use Rattle.std.proofs.lemmas.List.Folds.{concat-append}
 use Rattle.std.specs.List.{concat, filter, list_any}
@@ -30,23 +30,6 @@ walk_next parts by_part place x xs rest old new whole left step before =
     ∙ append_assoc old (parts place (x ∷ [])) (parts (place + 1) rest)
     ∙ ap (λ t. old ++ t) (sym (by_part place x rest) ∙ ap (parts place) (sym left))
     ∙ before
-
-pub walk_step : {X T : Type 0} (parts : ℕ → List X → List T) → IsByPart parts
-    → (xs : List X) (i place : ℕ) (x : X) (old new whole : List T)
-    → i < length xs → x ≡ get_or xs i x
-    → new ≡ old ++ parts place (x ∷ [])
-    → old ++ parts place (drop i xs) ≡ whole
-    → new ++ parts (place + 1) (drop (i + 1) xs) ≡ whole
-walk_step parts by_part xs i place x old new whole below is step before =
-    let rest = drop (i + 1) xs in
-    walk_next parts by_part place x (drop i xs) rest old new whole (drop_more xs i x below ∙ ap (λ y. y ∷ rest) (sym is)) step before
-
-pub walk_end : {X T : Type 0} (parts : ℕ → List X → List T) (xs : List X) (i place : ℕ) (old whole : List T)
-    → length xs ≤ i → parts place [] ≡ []
-    → old ++ parts place (drop i xs) ≡ whole
-    → old ≡ whole
-walk_end parts xs i place old whole past none before =
-    sym (ap (λ t. old ++ t) (at_drop_all (parts place) xs i past ∙ none) ∙ append-nil old) ∙ before
 
 -- ---- places, cookies and saved texts are such
 

@@ -16,7 +16,7 @@ use crate::expiries::Expiries;
 use crate::nanos::nanos_of;
 use crate::scope::Scope;
 use crate::site::Site;
-use crate::slots::{cookie_in, expiry_in, is_expired_in, is_full, lasts_in};
+use crate::slots::{cookie_in, expiry_in, is_expired_in, is_full, lasts_in, make_room};
 use crate::stored::StoredCookie;
 use cookie_browser::{Enforcement, KeptCookie};
 use jiff::civil::DateTime;
@@ -202,6 +202,7 @@ impl Rows {
         ensures err { OnErr result (held self.new.slots.items ≡ held self.old.slots.items) }
         ensures rows { AreRows self.new }
     {
+        make_room(&mut self.slots)?;
         let number = self.slots.len();
         self.index.add(alloc, key, number)?;
         self.expiries.add(number, cookie.expiry_nanos())?;

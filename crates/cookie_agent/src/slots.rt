@@ -5,6 +5,7 @@ ghost use Rattle.cookie_agent.specs.RowsCode.{expiry_at, has, slot_at};
 
 use crate::stored::StoredCookie;
 use jiff::civil::DateTime;
+use std::alloc::AllocError;
 
 // The cookie in this slot, if there is such a slot and it isn't empty.
 pub(crate) fn cookie_in(slots: &[Option<StoredCookie>], place: usize) -> Option<&StoredCookie>
@@ -57,4 +58,15 @@ pub(crate) fn expiry_in(slots: &[Option<StoredCookie>], place: usize) -> Option<
         Some(cookie) => cookie.expiry_nanos(),
         None => None,
     }
+}
+
+// Makes room for one more slot. The slots grow by a quarter, since a slot is large.
+pub(crate) fn make_room(slots: &mut Vec<Option<StoredCookie>>) -> Result<(), AllocError>
+    ensures { slots.new.items ≡ slots.old.items }
+{
+    let len = slots.len();
+    if len == slots.capacity() {
+        slots.reserve_exact(len / 4 + 4)?;
+    }
+    Ok(())
 }

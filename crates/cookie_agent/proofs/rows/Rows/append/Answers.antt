@@ -10,16 +10,18 @@ use Rattle.cookie_agent.proofs.TimedLemmas.{timed-push, timed-stay}
 use Rattle.cookie_agent.proofs.rows.Rows.append.Goals as goal
 
 pub returns-clause-ok : goal.returns-clause-ok
-returns-clause-ok c = ap held c.in_ok-push.ensures.items ∙ held-push c.args.self.now.slots.items c.args.cookie
+returns-clause-ok c =
+    ap held (c.in_ok-push.ensures.items ∙ ap (λ (s : Slots). s ++ Some c.args.cookie ∷ []) c.make_room.ensures) ∙ held-push c.args.self.now.slots.items c.args.cookie
 
 pub returns-clause-rows : goal.returns-clause-rows
 returns-clause-rows c =
     let slots : Slots = c.args.self.now.slots.items in
     let x : KeptView = c.args.cookie in
     let new = c.add.new.self in
-    let pushed : c.push.new.self.items ≡ slots ++ Some x ∷ [] = c.in_ok-push.ensures.items in
+    let room : c.make_room.new.slots.items ≡ slots = c.make_room.ensures in
+    let pushed : c.push.new.self.items ≡ slots ++ Some x ∷ [] = c.in_ok-push.ensures.items ∙ ap (λ (s : Slots). s ++ Some x ∷ []) room in
     let stay : AreListed new slots = listed-in c.args.self.now.index new slots (λ d k full here. c.in_ok-add.ensures.stay (reverse d) k here) c.requires.rows.listed in
-    let number : c.len-number.result ≡ length slots = (let len = c.len-number.ensures in let ok = c.args.self.now.slots.ok.0 in omega (arith, len, ok)) in
+    let number : c.len-number.result ≡ length slots = (let len = c.len-number.ensures in let ok = c.make_room.new.slots.ok.0 in let same = ap (λ (s : Slots). length s) room in omega (arith, len, ok, same)) in
     let added : Lists new x.domain (length slots)
     = subst (λ k. IsNumberAt new k (length slots)) c.requires.key (subst (λ n. IsNumberAt new c.args.key.items n) number c.in_ok-add.ensures.added) in
     let more : length (held c.push.new.self.items) ≡ length (held slots) + 1 = ap (λ s. length (held s)) pushed ∙ ap (λ l. length l) (held-push slots x) ∙ length-append (held slots) (x ∷ []) in
