@@ -38,7 +38,7 @@ returns-clause-rows c =
 pub returns-in_err-push-clause-rows : goal.returns-in_err-push-clause-rows
 returns-in_err-push-clause-rows c =
     let slots : Slots = c.args.self.now.slots.items in
-    let same : c.push.new.self.items ≡ slots = c.in_err-push.ensures.items in
+    let same : c.push.new.self.items ≡ slots = c.in_err-push.ensures.items ∙ c.make_room.ensures in
     record {
       listed = subst (AreListed c.add.new.self) (sym same) (listed-in c.args.self.now.index c.add.new.self slots (λ d k full here. c.in_ok-add.ensures.stay (reverse d) k here) c.requires.rows.listed);
       timed = subst (AreTimed c.add-2.new.self) (sym same) (timed-stay c.args.self.now.expiries c.add-2.new.self slots c.requires.rows.timed c.in_ok-add-2.ensures.stay);
