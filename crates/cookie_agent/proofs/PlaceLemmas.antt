@@ -1,5 +1,5 @@
 -- Cookies that are stored in turn: each is put in the place of the one with its key, which a map knows.
-use Rattle.std.proofs.Common.{◌≡◌, ℕ, suc, ◌+◌, ◌-◌, ◌<◌, ◌≤◌, ◌&&◌, not, Bool, true, false, cond, [], ◌∷◌, ◌++◌, length, Option, Some, None, refl, sym, ap, ◌∙◌, All, arith}
+use Rattle.std.proofs.Common.{◌≡◌, ℕ, suc, ◌+◌, ◌-◌, ◌<◌, ◌≤◌, ◌&&◌, not, Bool, true, false, cond, List, [], ◌∷◌, ◌++◌, length, Option, Some, None, unwrap_or, refl, sym, ap, ◌∙◌, All, arith}
 use Rattle.std.proofs.Math.ListN.{set}
 use Rattle.std.proofs.lemmas.Bool.{false≢true}
 use Rattle.std.proofs.lemmas.List.{append_assoc, append-nil}
@@ -7,6 +7,7 @@ use Rattle.std.proofs.lemmas.List.Elements.{All-head, All-tail, All-nil, All-con
 use Rattle.std.specs.BTreeMap.{BTreeMap, UpdatesBy, get, is_at}
 use Rattle.std.specs.Cmp.Lexicographic.{slice_cmp, texts_ties}
 use Rattle.std.specs.List.{filter, position_from}
+use Rattle.std.specs.Map.{lookup}
 use Rattle.std.specs.Ordering.{bool_cmp, eq_by_cmp, is_eq, nat_cmp, ordering_then}
 use Rattle.std.specs.declared.cmp.Ordering.{Ordering}
 use Rattle.std.specs.declared.cmp.Ordering.TheVariants.{Less, Equal, Greater}
@@ -158,20 +159,57 @@ module _ (x : KeptView) (key : Key) (same : is_same_cookie x (key_view key) ≡ 
   pub told_place : get (key_ord.ghosts).cmp m key ≡ place x 0 xs
   told_place = places key ∙ sym (place_alike x (key_view key) 0 xs same)
 
-  pub places-replaced : (p : ℕ) → IsApart xs → get (key_ord.ghosts).cmp m key ≡ Some p → ArePlaces m (kept_with x xs)
-  places-replaced p apart found q = places q ∙ sym (places_stay (key_view q) x 0 p xs apart (sym told_place ∙ found))
+  -- the map has the place p at the key then: the one that it had, or else the last
+  module _ (p : ℕ) (is : p ≡ unwrap_or (get (key_ord.ghosts).cmp m key) (length xs)) (apart : IsApart xs) where
+    had : (q : ℕ) → get (key_ord.ghosts).cmp m key ≡ Some q → Some p ≡ place x 0 xs
+    had q found = ap (λ k. Some k) (is ∙ ap (λ o. unwrap_or o (length xs)) found) ∙ sym found ∙ told_place
 
-  pub places-added : (n : BTreeMap Key ℕ) → get (key_ord.ghosts).cmp m key ≡ None
-      → UpdatesBy (key_ord.ghosts).cmp ((key_ord.ghosts).cmp key) m n (Some (length xs)) → ArePlaces n (kept_with x xs)
-  places-added n none updates q =
-      let tied : is_at ((key_ord.ghosts).cmp key) q ≡ is_same_cookie x (key_view q)
-      = tied_keys key q ∙ turned_key (key_view key) (key_view q) ∙ sym (same_key x (key_view key) (key_view q) same) ∙ turned_key (key_view q) x in
-      let start : length xs ≡ 0 + length xs = omega arith in
-      updates.0 q
-      ∙ ap (λ b. cond b (Some (length xs)) (get (key_ord.ghosts).cmp m q)) tied
-      ∙ ap (λ o. cond (is_same_cookie x (key_view q)) (Some (length xs)) o) (places q)
-      ∙ ap (λ k. cond (is_same_cookie x (key_view q)) (Some k) (place (key_view q) 0 xs)) start
-      ∙ sym (place_at_end (key_view q) x 0 xs (sym told_place ∙ none))
+    pub put-among : p < length xs → set xs p x ≡ kept_with x xs
+    put-among below = by (get (key_ord.ghosts).cmp m key) refl
+      where
+        by : (o : Option ℕ) → get (key_ord.ghosts).cmp m key ≡ o → set xs p x ≡ kept_with x xs
+        by None none =
+            let last : p ≡ length xs = is ∙ ap (λ o. unwrap_or o (length xs)) none in
+            absurd (omega (arith, last, below))
+        by (Some q) found =
+            let start : p ≡ p - 0 = omega arith in
+            ap (λ k. set xs k x) start ∙ (put_at_place x 0 p xs apart (sym (had q found))).written
+
+    pub put-last : length xs ≤ p → xs ++ x ∷ [] ≡ kept_with x xs
+    put-last beyond = by (get (key_ord.ghosts).cmp m key) refl
+      where
+        by : (o : Option ℕ) → get (key_ord.ghosts).cmp m key ≡ o → xs ++ x ∷ [] ≡ kept_with x xs
+        by None none = sym (put_at_end x 0 xs (sym told_place ∙ none))
+        by (Some q) found =
+            let below = (put_at_place x 0 p xs apart (sym (had q found))).below in
+            absurd (omega (arith, below, beyond))
+
+    pub places-put : (n : BTreeMap Key ℕ) (es : List (Key × ℕ)) → es ≡ n.entries
+        → UpdatesBy (key_ord.ghosts).cmp ((key_ord.ghosts).cmp key) m n (Some p) → (q : Key)
+        → lookup (is_at ((key_ord.ghosts).cmp q)) es ≡ place (key_view q) 0 (kept_with x xs)
+    places-put n es after updates q =
+        ap (lookup (is_at ((key_ord.ghosts).cmp q))) after
+        ∙ updates.0 q
+        ∙ ap (λ b. cond b (Some p) (get (key_ord.ghosts).cmp m q)) tied
+        ∙ ap (λ o. cond (is_same_cookie x (key_view q)) (Some p) o) (places q)
+        ∙ by (get (key_ord.ghosts).cmp m key) refl
+      where
+        tied : is_at ((key_ord.ghosts).cmp key) q ≡ is_same_cookie x (key_view q)
+        tied = tied_keys key q ∙ turned_key (key_view key) (key_view q) ∙ sym (same_key x (key_view key) (key_view q) same) ∙ turned_key (key_view q) x
+
+        stays : (b : Bool) → is_same_cookie x (key_view q) ≡ b → Some p ≡ place x 0 xs → cond b (Some p) (place (key_view q) 0 xs) ≡ place (key_view q) 0 xs
+        stays true alike found = found ∙ place_alike x (key_view q) 0 xs alike
+        stays false alike found = refl
+
+        by : (o : Option ℕ) → get (key_ord.ghosts).cmp m key ≡ o
+            → cond (is_same_cookie x (key_view q)) (Some p) (place (key_view q) 0 xs) ≡ place (key_view q) 0 (kept_with x xs)
+        by None none =
+            let last : length xs ≡ 0 + length xs = omega arith in
+            ap (λ k. cond (is_same_cookie x (key_view q)) (Some k) (place (key_view q) 0 xs)) (is ∙ ap (λ o. unwrap_or o (length xs)) none ∙ last)
+            ∙ sym (place_at_end (key_view q) x 0 xs (sym told_place ∙ none))
+        by (Some k) found =
+            stays (is_same_cookie x (key_view q)) refl (had k found)
+            ∙ sym (places_stay (key_view q) x 0 p xs apart (sym (had k found)))
 
 -- ---- a list that is stored in turn
 

@@ -53,9 +53,12 @@ impl Group {
 fn compare_texts(left: &Ranked<'_>, right: &Ranked<'_>) -> Ordering
     ensures { result ≡ text_cmp (rank_of left.now) (rank_of right.now) }
 {
-    let by_secure = compare_secure(left.cookie, right.cookie);
-    let later = by_secure.then(compare_access(left, right));
-    left.text.cmp(right.text).then(later)
+    match left.text.cmp(right.text) {
+        Ordering::Equal => {
+            compare_secure(left.cookie, right.cookie).then(compare_access(left, right))
+        }
+        unequal => unequal,
+    }
 }
 
 fn compare_secure(left: &StoredCookie, right: &StoredCookie) -> Ordering

@@ -39,11 +39,11 @@ fn put_by_key(
     ensures value { OnOk result (made.new.items ≡ kept_with cookie made.old.items) }
     ensures places { OnOk result (ArePlaces places.new made.new.items) }
 {
-    if let Some(&place) = places.get(&key) {
+    let place = *places.entry(key)?.or_insert(made.len());
+    if place < made.len() {
         made[place] = cookie;
         return Ok(());
     }
-    places.insert(key, made.len())?;
     made.push(cookie)?;
     Ok(())
 }

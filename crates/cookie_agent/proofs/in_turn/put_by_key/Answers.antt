@@ -1,52 +1,45 @@
--- The map has the place of the one with the key, or the new one comes last.
-use Rattle.std.proofs.Common.{◌≡◌, ◌-◌, Some, length, sym, ap, subst, ◌∙◌, arith}
-use Rattle.std.proofs.Math.ListN.{set}
-use Rattle.std.specs.BTreeMap.{UpdatesBy}
+-- The map has the place of the one with the key, or the last one.
+use Rattle.std.proofs.Common.{◌≡◌, ◌<◌, ◌≤◌, length, unwrap_or, ap, ◌∙◌, sym, rules}
+use Rattle.std.specs.BTreeMap.{get}
+use Rattle.std.specs.BTreeMap.Entry.{map_with_value}
 use Rattle.cookie_browser.specs.Storage.{CookieStore}
 use Rattle.cookie_agent.specs.StoredCode.{key_view}
 use Rattle.cookie_agent.specs.contracts.key.KeyOrd.TheImpl as key_ord
-use Rattle.cookie_agent.proofs.PlaceLemmas.{place, places-added, places-replaced, put_at_end, put_at_place, told_place}
+use Rattle.cookie_agent.proofs.PlaceLemmas.{place, places-put, put-among, put-last}
 use Rattle.cookie_agent.proofs.in_turn.put_by_key.Goals as goal
 
-pub index_mut-requires : goal.index_mut-requires
-index_mut-requires c =
+pub returns-then-place-len-clause-value : goal.returns-then-place-len-clause-value
+returns-then-place-len-clause-value c =
     let x = c.args.cookie in
     let xs : CookieStore = c.args.made.now.items in
-    let found : place x 0 xs ≡ Some c.in-Some.field-0.now
-    = sym (told_place x c.args.key c.requires.key c.args.places.now xs c.requires.places) ∙ sym c.in-Some.ensures.value in
-    let below = (put_at_place x 0 c.in-Some.field-0.now xs c.requires.apart found).below in
-    omega (arith, below)
+    let p = c.or_insert-place.result.now in
+    let is : p ≡ unwrap_or (get (key_ord.ghosts).cmp c.args.places.now c.args.key) (length xs) = search rules in
+    let below : p < length xs = search rules in
+    put-among x c.args.key c.requires.key c.args.places.now xs c.requires.places p is c.requires.apart below
 
-pub returns-in-Some-clause-value : goal.returns-in-Some-clause-value
-returns-in-Some-clause-value c =
+pub returns-then-place-len-clause-places : goal.returns-then-place-len-clause-places
+returns-then-place-len-clause-places c q =
     let x = c.args.cookie in
     let xs : CookieStore = c.args.made.now.items in
-    let p = c.in-Some.field-0.now in
-    let found : place x 0 xs ≡ Some p
-    = sym (told_place x c.args.key c.requires.key c.args.places.now xs c.requires.places) ∙ sym c.in-Some.ensures.value in
-    let start : p - 0 ≡ p = omega arith in
-    ap (λ k. set xs k x) (sym start) ∙ (put_at_place x 0 p xs c.requires.apart found).written
-
-pub returns-in-Some-clause-places : goal.returns-in-Some-clause-places
-returns-in-Some-clause-places c q =
-    let x = c.args.cookie in
-    let xs : CookieStore = c.args.made.now.items in
-    places-replaced x c.args.key c.requires.key c.args.places.now xs c.requires.places c.in-Some.field-0.now c.requires.apart (sym c.in-Some.ensures.value) q
-    ∙ ap (place (key_view q) 0) (sym (returns-in-Some-clause-value c))
+    let p = c.or_insert-place.result.now in
+    let is : p ≡ unwrap_or (get (key_ord.ghosts).cmp c.args.places.now c.args.key) (length xs) = search rules in
+    places-put x c.args.key c.requires.key c.args.places.now xs c.requires.places p is c.requires.apart (map_with_value c.in_ok-places.field-0 p) _ (search rules) (c.in_ok-places.ensures.update.0 p) q
+    ∙ ap (place (key_view q) 0) (sym (returns-then-place-len-clause-value c))
 
 pub returns-clause-value : goal.returns-clause-value
 returns-clause-value c =
     let x = c.args.cookie in
     let xs : CookieStore = c.args.made.now.items in
-    c.in_ok-push.ensures.items
-    ∙ sym (put_at_end x 0 xs (sym (told_place x c.args.key c.requires.key c.args.places.now xs c.requires.places) ∙ sym c.in_default.ensures.value))
+    let p = c.or_insert-place.result.now in
+    let is : p ≡ unwrap_or (get (key_ord.ghosts).cmp c.args.places.now c.args.key) (length xs) = search rules in
+    let beyond : length xs ≤ p = search rules in
+    c.in_ok-push.ensures.items ∙ put-last x c.args.key c.requires.key c.args.places.now xs c.requires.places p is c.requires.apart beyond
 
 pub returns-clause-places : goal.returns-clause-places
 returns-clause-places c q =
     let x = c.args.cookie in
     let xs : CookieStore = c.args.made.now.items in
-    let size : c.len.result ≡ length xs = omega (arith, c.len.ensures) in
-    let updates : UpdatesBy (key_ord.ghosts).cmp ((key_ord.ghosts).cmp c.args.key) c.args.places.now c.insert.new.self (Some (length xs))
-    = subst (λ n. UpdatesBy (key_ord.ghosts).cmp ((key_ord.ghosts).cmp c.args.key) c.args.places.now c.insert.new.self (Some n)) size c.in_ok-insert.ensures.updates in
-    places-added x c.args.key c.requires.key c.args.places.now xs c.requires.places c.insert.new.self (sym c.in_default.ensures.value) updates q
+    let p = c.or_insert-place.result.now in
+    let is : p ≡ unwrap_or (get (key_ord.ghosts).cmp c.args.places.now c.args.key) (length xs) = search rules in
+    places-put x c.args.key c.requires.key c.args.places.now xs c.requires.places p is c.requires.apart (map_with_value c.in_ok-places.field-0 p) _ (search rules) (c.in_ok-places.ensures.update.0 p) q
     ∙ ap (place (key_view q) 0) (sym (returns-clause-value c))
