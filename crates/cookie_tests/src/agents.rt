@@ -1,7 +1,7 @@
 //! The user agent over cookies that are drawn.
 use crate::draws::{Draws, code};
 use crate::moment::moment;
-use cookie_agent::{Agent, Site};
+use cookie_agent::{Agent, Scope, Site, Store};
 use cookie_browser::Suffixes;
 use jiff::SignedDuration;
 use jiff::civil::DateTime;
@@ -79,5 +79,45 @@ fn drawn_cookies_are_stored_and_sent(rt: HostRuntime) {
             assert!(rt; push_list(&mut bytes, &mut draws).is_ok(), "list {number}");
         }
         assert!(rt; u64::from_str_radix(wanted, 16) == Ok(code(&bytes)));
+    }
+}
+
+// The store of a host with three cookies, without the second.
+fn store_without_second(alloc: Global) -> Option<Store> {
+    let suffixes = Suffixes::empty(alloc);
+    let mut agent = Agent::new(alloc, &suffixes);
+    let site = site(alloc, 0).ok()?;
+    for text in ["a=1", "b=2", "c=3"] {
+        agent.read(&site, text.as_bytes(), moment()).ok()?;
+    }
+    let scope = Scope::new(alloc, b"example.com", true, b"/").ok()?;
+    if agent.remove(b"b", &scope) {
+        return Some(agent.into_store());
+    }
+    None
+}
+
+// The names of the store's cookies, by their places.
+fn names_by_place(alloc: Global, store: &Store) -> Option<Vec<u8>> {
+    let mut names = Vec::new(alloc);
+    for place in 0..store.len() {
+        let cookie = store.cookie_at(place)?;
+        names.extend_from_slice(cookie.as_kept().name).ok()?;
+    }
+    Some(names)
+}
+
+#[test]
+fn a_removal_leaves_the_others_in_their_order(rt: HostRuntime) {
+    let Some(mut store) = store_without_second(rt.alloc()) else {
+        assert!(rt; false, "no memory, or no cookie to remove");
+        return;
+    };
+    for _ in 0..2 {
+        let names = names_by_place(rt.alloc(), &store);
+        assert!(rt; names.is_some_and(|names| names.as_slice() == b"ac".as_slice()));
+        assert!(rt; store.cookies().size_hint() == (2, Some(2)));
+        assert!(rt; store.cookie_at(2).is_none());
+        store.pack();
     }
 }
