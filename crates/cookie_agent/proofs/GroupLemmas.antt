@@ -3,10 +3,9 @@ use Rattle.std.proofs.Common.{◌≡◌, ℕ, ℤ, ◌<◌, ◌&&◌, not, Bool,
 use Rattle.std.proofs.lemmas.Bool.{false≢true}
 use Rattle.std.proofs.lemmas.Bool.Decides.{nat_tests}
 use Rattle.std.proofs.lemmas.List.MinMax.{ranks_by}
-use Rattle.std.proofs.lemmas.Map.Lookups.{exact_bytes, exact_unsigned}
+use Rattle.std.proofs.lemmas.Map.Lookups.{exact_unsigned}
 use Rattle.std.proofs.lemmas.Slice.Eq.{bytes_eq-Decides}
 use Rattle.std.specs.Cmp.{IsTotalOrder, bool_cmp_total, int_cmp_total, nat_cmp_total, on_total, then_total}
-use Rattle.std.specs.Cmp.Lexicographic.{nat_list_cmp_total, slice_cmp, texts_ties}
 use Rattle.std.specs.Ordering.{bool_cmp, int_cmp, is_eq, is_lt, nat_cmp, ordering_reverse, ordering_then}
 use Rattle.std.specs.Prelude.{int_lt}
 use Rattle.std.specs.Str.{bytes_eq}
@@ -17,9 +16,11 @@ use Rattle.cookie_browser.specs.Storage.{CookieStore, both_or_neither}
 use Rattle.cookie_browser.specs.Suffixes.{Rule}
 use Rattle.cookie_agent.specs.Limits.{counts, goes_first}
 use Rattle.cookie_agent.specs.LimitsCode.{Rank, access_cmp, comes_before, counted_by, rank_at, rank_cmp, shares, text_cmp, text_of}
+use Rattle.cookie_agent.specs.SumsCode.{summed_cmp}
 use Rattle.cookie_agent.specs.declared.group.Group.{Group}
 use Rattle.cookie_agent.specs.declared.group.Group.TheVariants.{Domain, Site, Whole}
 use Rattle.cookie_agent.proofs.RankLemmas.{AreGroups}
+use Rattle.cookie_agent.proofs.SumLemmas.{summed_exact, summed_ties, summed_total}
 
 -- ---- the orders are total
 
@@ -28,7 +29,7 @@ access_total = then_total (on_total (λ (r : Rank). r.cookie.last_access) int_cm
 
 text_total : IsTotalOrder text_cmp
 text_total =
-    then_total (on_total (λ (r : Rank). r.text) nat_list_cmp_total)
+    then_total (on_total (λ (r : Rank). r.text) summed_total)
     (then_total (on_total (λ (r : Rank). r.cookie.is_secure_only) bool_cmp_total) access_total)
 
 pub rank_total : (group : Group) → IsTotalOrder (rank_cmp group)
@@ -62,7 +63,7 @@ text_ties : (x y : Rank) → text_cmp x y ≡ Equal → x.place ≡ y.place
 text_ties x y e =
     access_ties x y
     (then_equal (bool_cmp x.cookie.is_secure_only y.cookie.is_secure_only) (access_cmp x y)
-    (then_equal (slice_cmp nat_cmp x.text y.text) (ordering_then (bool_cmp x.cookie.is_secure_only y.cookie.is_secure_only) (access_cmp x y)) e).1).1
+    (then_equal (summed_cmp x.text y.text) (ordering_then (bool_cmp x.cookie.is_secure_only y.cookie.is_secure_only) (access_cmp x y)) e).1).1
 
 rank_ties : (group : Group) (x y : Rank) → rank_cmp group x y ≡ Equal → x.place ≡ y.place
 rank_ties Domain x y e = text_ties x y e
@@ -74,13 +75,13 @@ rank_ties Whole x y e = access_ties x y e
 texts_meet : (x y z : Rank) → is_lt (text_cmp y x) ≡ false → is_lt (text_cmp z y) ≡ false → bytes_eq z.text x.text ≡ true → bytes_eq y.text x.text ≡ true
 texts_meet x y z after-x after-y same =
     let text : z.text ≡ x.text = (bytes_eq-Decides z.text x.text).0 same in
-    let up = then_first (slice_cmp nat_cmp y.text x.text) (ordering_then (bool_cmp y.cookie.is_secure_only x.cookie.is_secure_only) (access_cmp y x)) after-x in
-    let down : is_lt (slice_cmp nat_cmp x.text y.text) ≡ false
-    = ap (λ d. is_lt (slice_cmp nat_cmp d y.text)) (sym text)
-    ∙ then_first (slice_cmp nat_cmp z.text y.text) (ordering_then (bool_cmp z.cookie.is_secure_only y.cookie.is_secure_only) (access_cmp z y)) after-y in
+    let up = then_first (summed_cmp y.text x.text) (ordering_then (bool_cmp y.cookie.is_secure_only x.cookie.is_secure_only) (access_cmp y x)) after-x in
+    let down : is_lt (summed_cmp x.text y.text) ≡ false
+    = ap (λ d. is_lt (summed_cmp d y.text)) (sym text)
+    ∙ then_first (summed_cmp z.text y.text) (ordering_then (bool_cmp z.cookie.is_secure_only y.cookie.is_secure_only) (access_cmp z y)) after-y in
     (bytes_eq-Decides y.text x.text).1
-    (exact_bytes y.text x.text
-    (tied (slice_cmp nat_cmp y.text x.text) (slice_cmp nat_cmp x.text y.text) (nat_list_cmp_total.antisymm y.text x.text) up down))
+    (summed_exact y.text x.text
+    (tied (summed_cmp y.text x.text) (summed_cmp x.text y.text) (summed_total.antisymm y.text x.text) up down))
 
 groups_itself : (group : Group) (x : Rank) → shares group x x ≡ true
 groups_itself Domain x = (bytes_eq-Decides x.text x.text).1 refl
@@ -153,8 +154,8 @@ secure_last true false b o e = refl
 secure_last false true b o e = refl
 secure_last false false b o e = e
 
-same_text : (a b : List ℕ) (o : Ordering) → bytes_eq b a ≡ true → is_lt (ordering_then (slice_cmp nat_cmp a b) o) ≡ is_lt o
-same_text a b o e = by (slice_cmp nat_cmp a b) (sym (texts_ties a b) ∙ (bytes_eq-Decides a b).1 (sym ((bytes_eq-Decides b a).0 e)))
+same_text : (a b : List ℕ) (o : Ordering) → bytes_eq b a ≡ true → is_lt (ordering_then (summed_cmp a b) o) ≡ is_lt o
+same_text a b o e = by (summed_cmp a b) (summed_ties a b ∙ (bytes_eq-Decides a b).1 (sym ((bytes_eq-Decides b a).0 e)))
   where
     by : (c : Ordering) → is_eq c ≡ true → is_lt (ordering_then c o) ≡ is_lt o
     by Less f = absurd (false≢true f)

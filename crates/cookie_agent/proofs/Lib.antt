@@ -34,9 +34,11 @@ pub mod SavedLemmas
 pub mod SentFieldLemmas
 pub mod SiteLemmas
 pub mod SlotLemmas
+pub mod SpreadLemmas
 pub mod StorableLemmas
 pub mod StoreLemmas
 pub mod StoringLemmas
+pub mod SumLemmas
 pub mod TimedLemmas
 pub mod TrimLemmas
 pub mod VerdictLemmas

@@ -5,26 +5,20 @@ use Rattle.std.proofs.lemmas.Bool.{false≢true}
 use Rattle.std.proofs.lemmas.List.{append_assoc, append-nil}
 use Rattle.std.proofs.lemmas.List.Elements.{All-head, All-tail, All-nil, All-cons}
 use Rattle.std.specs.BTreeMap.{BTreeMap, UpdatesBy, get, is_at}
+use Rattle.std.specs.Cmp.{tied_then}
 use Rattle.std.specs.Cmp.Lexicographic.{slice_cmp, texts_ties}
 use Rattle.std.specs.List.{filter, position_from}
 use Rattle.std.specs.Map.{lookup}
 use Rattle.std.specs.Ordering.{bool_cmp, eq_by_cmp, is_eq, nat_cmp, ordering_then}
-use Rattle.std.specs.declared.cmp.Ordering.{Ordering}
-use Rattle.std.specs.declared.cmp.Ordering.TheVariants.{Less, Equal, Greater}
 use Rattle.cookie_browser.specs.Storage.{KeptView, CookieStore, both_or_neither, is_same_cookie, kept_with}
 use Rattle.cookie_agent.specs.Stored.{IsApart, kept_with_each}
-use Rattle.cookie_agent.specs.StoredCode.{ArePlaces, key_view}
-use Rattle.cookie_agent.specs.contracts.key.KeyOrd.TheImpl as key_ord
-use Rattle.cookie_agent.specs.declared.key.Key.{Key}
-use Rattle.cookie_agent.proofs.KeyLemmas.{same_key, turned_key}
+use Rattle.cookie_agent.specs.StoredCode.{ArePlaces, IsSummed, SummedKey, key_view, summed_key_cmp}
+use Rattle.cookie_agent.specs.SumsCode.{sum_of}
+use Rattle.cookie_agent.proofs.KeyLemmas.{alike, same_key, turned_key}
 use Rattle.cookie_agent.proofs.PutLemmas.{kept_all}
+use Rattle.cookie_agent.proofs.SumLemmas.{spared, tied_numbers}
 
 -- ---- keys
-
-tied_then : (a b : Ordering) → is_eq (ordering_then a b) ≡ is_eq a && is_eq b
-tied_then Less b = refl
-tied_then Equal b = refl
-tied_then Greater b = refl
 
 tied_flags : (a b : Bool) → is_eq (bool_cmp a b) ≡ both_or_neither a b
 tied_flags true true = refl
@@ -32,20 +26,30 @@ tied_flags true false = refl
 tied_flags false true = refl
 tied_flags false false = refl
 
--- two keys tie if they are of the same cookie
-pub tied_keys : (p q : Key) → eq_by_cmp (key_ord.ghosts).cmp p q ≡ is_same_cookie (key_view p) (key_view q)
-tied_keys p q =
-    let name = slice_cmp nat_cmp p.name.items q.name.items in
-    let domain = slice_cmp nat_cmp p.domain.items q.domain.items in
-    let flag = bool_cmp p.is_host_only q.is_host_only in
-    let path = slice_cmp nat_cmp p.path.items q.path.items in
-    let by_name = sym (texts_ties p.name.items q.name.items) in
-    let by_domain = sym (texts_ties p.domain.items q.domain.items) in
-    let by_path = sym (texts_ties p.path.items q.path.items) in
-    tied_then name (ordering_then domain (ordering_then flag path))
-    ∙ ap (λ b. is_eq name && b) (tied_then domain (ordering_then flag path))
-    ∙ ap (λ b. is_eq name && (is_eq domain && b)) (tied_then flag path)
-    ∙ (λ i. by_name i && (by_domain i && (tied_flags p.is_host_only q.is_host_only i && by_path i)))
+same_sum : (p q : SummedKey) → IsSummed p → IsSummed q → is_same_cookie (key_view p.1.now) (key_view q.1.now) ≡ true → p.0 ≡ q.0
+same_sum p q summed other e =
+    let same = alike (key_view p.1.now) (key_view q.1.now) e in
+    summed ∙ ap (λ name. sum_of name p.1.now.domain.items) same.name ∙ ap (sum_of q.1.now.name.items) same.domain ∙ sym other
+
+-- two keys with the sums of their texts tie if they are of the same cookie
+pub tied_keys : (p q : SummedKey) → IsSummed p → IsSummed q → eq_by_cmp summed_key_cmp p q ≡ is_same_cookie (key_view p.1.now) (key_view q.1.now)
+tied_keys p q summed other =
+    let a = p.1.now in
+    let b = q.1.now in
+    let sum = nat_cmp p.0 q.0 in
+    let name = slice_cmp nat_cmp a.name.items b.name.items in
+    let domain = slice_cmp nat_cmp a.domain.items b.domain.items in
+    let flag = bool_cmp a.is_host_only b.is_host_only in
+    let path = slice_cmp nat_cmp a.path.items b.path.items in
+    let by_name = sym (texts_ties a.name.items b.name.items) in
+    let by_domain = sym (texts_ties a.domain.items b.domain.items) in
+    let by_path = sym (texts_ties a.path.items b.path.items) in
+    sym (tied_then sum (ordering_then name (ordering_then domain (ordering_then flag path))))
+    ∙ ap (λ c. is_eq sum && c) (sym (tied_then name (ordering_then domain (ordering_then flag path))))
+    ∙ ap (λ c. is_eq sum && (is_eq name && c)) (sym (tied_then domain (ordering_then flag path)))
+    ∙ ap (λ c. is_eq sum && (is_eq name && (is_eq domain && c))) (sym (tied_then flag path))
+    ∙ (λ i. is_eq sum && (by_name i && (by_domain i && (tied_flags a.is_host_only b.is_host_only i && by_path i))))
+    ∙ spared (is_eq sum) (is_same_cookie (key_view a) (key_view b)) (λ e. tied_numbers p.0 q.0 (same_sum p q summed other e))
 
 -- ---- places
 
@@ -154,20 +158,20 @@ place_at_end q x n (c ∷ xs) e = by (is_same_cookie c x) refl (place_at_end q x
 
 -- ---- the map of the places
 
-module _ (x : KeptView) (key : Key) (same : is_same_cookie x (key_view key) ≡ true) (m : BTreeMap Key ℕ) (xs : CookieStore) (places : ArePlaces m xs) where
+module _ (x : KeptView) (key : SummedKey) (same : is_same_cookie x (key_view key.1.now) ≡ true) (summed : IsSummed key) (m : BTreeMap SummedKey ℕ) (xs : CookieStore) (places : ArePlaces m xs) where
   -- what the map says of the key
-  pub told_place : get (key_ord.ghosts).cmp m key ≡ place x 0 xs
-  told_place = places key ∙ sym (place_alike x (key_view key) 0 xs same)
+  pub told_place : get summed_key_cmp m key ≡ place x 0 xs
+  told_place = places key summed ∙ sym (place_alike x (key_view key.1.now) 0 xs same)
 
   -- the map has the place p at the key then: the one that it had, or else the last
-  module _ (p : ℕ) (is : p ≡ unwrap_or (get (key_ord.ghosts).cmp m key) (length xs)) (apart : IsApart xs) where
-    had : (q : ℕ) → get (key_ord.ghosts).cmp m key ≡ Some q → Some p ≡ place x 0 xs
+  module _ (p : ℕ) (is : p ≡ unwrap_or (get summed_key_cmp m key) (length xs)) (apart : IsApart xs) where
+    had : (q : ℕ) → get summed_key_cmp m key ≡ Some q → Some p ≡ place x 0 xs
     had q found = ap (λ k. Some k) (is ∙ ap (λ o. unwrap_or o (length xs)) found) ∙ sym found ∙ told_place
 
     pub put-among : p < length xs → set xs p x ≡ kept_with x xs
-    put-among below = by (get (key_ord.ghosts).cmp m key) refl
+    put-among below = by (get summed_key_cmp m key) refl
       where
-        by : (o : Option ℕ) → get (key_ord.ghosts).cmp m key ≡ o → set xs p x ≡ kept_with x xs
+        by : (o : Option ℕ) → get summed_key_cmp m key ≡ o → set xs p x ≡ kept_with x xs
         by None none =
             let last : p ≡ length xs = is ∙ ap (λ o. unwrap_or o (length xs)) none in
             absurd (omega (arith, last, below))
@@ -176,40 +180,40 @@ module _ (x : KeptView) (key : Key) (same : is_same_cookie x (key_view key) ≡ 
             ap (λ k. set xs k x) start ∙ (put_at_place x 0 p xs apart (sym (had q found))).written
 
     pub put-last : length xs ≤ p → xs ++ x ∷ [] ≡ kept_with x xs
-    put-last beyond = by (get (key_ord.ghosts).cmp m key) refl
+    put-last beyond = by (get summed_key_cmp m key) refl
       where
-        by : (o : Option ℕ) → get (key_ord.ghosts).cmp m key ≡ o → xs ++ x ∷ [] ≡ kept_with x xs
+        by : (o : Option ℕ) → get summed_key_cmp m key ≡ o → xs ++ x ∷ [] ≡ kept_with x xs
         by None none = sym (put_at_end x 0 xs (sym told_place ∙ none))
         by (Some q) found =
             let below = (put_at_place x 0 p xs apart (sym (had q found))).below in
             absurd (omega (arith, below, beyond))
 
-    pub places-put : (n : BTreeMap Key ℕ) (es : List (Key × ℕ)) → es ≡ n.entries
-        → UpdatesBy (key_ord.ghosts).cmp ((key_ord.ghosts).cmp key) m n (Some p) → (q : Key)
-        → lookup (is_at ((key_ord.ghosts).cmp q)) es ≡ place (key_view q) 0 (kept_with x xs)
-    places-put n es after updates q =
-        ap (lookup (is_at ((key_ord.ghosts).cmp q))) after
+    pub places-put : (n : BTreeMap SummedKey ℕ) (es : List (SummedKey × ℕ)) → es ≡ n.entries
+        → UpdatesBy summed_key_cmp (summed_key_cmp key) m n (Some p) → (q : SummedKey) → IsSummed q
+        → lookup (is_at (summed_key_cmp q)) es ≡ place (key_view q.1.now) 0 (kept_with x xs)
+    places-put n es after updates q other =
+        ap (lookup (is_at (summed_key_cmp q))) after
         ∙ updates.0 q
-        ∙ ap (λ b. cond b (Some p) (get (key_ord.ghosts).cmp m q)) tied
-        ∙ ap (λ o. cond (is_same_cookie x (key_view q)) (Some p) o) (places q)
-        ∙ by (get (key_ord.ghosts).cmp m key) refl
+        ∙ ap (λ b. cond b (Some p) (get summed_key_cmp m q)) tied
+        ∙ ap (λ o. cond (is_same_cookie x (key_view q.1.now)) (Some p) o) (places q other)
+        ∙ by (get summed_key_cmp m key) refl
       where
-        tied : is_at ((key_ord.ghosts).cmp key) q ≡ is_same_cookie x (key_view q)
-        tied = tied_keys key q ∙ turned_key (key_view key) (key_view q) ∙ sym (same_key x (key_view key) (key_view q) same) ∙ turned_key (key_view q) x
+        tied : is_at (summed_key_cmp key) q ≡ is_same_cookie x (key_view q.1.now)
+        tied = tied_keys key q summed other ∙ turned_key (key_view key.1.now) (key_view q.1.now) ∙ sym (same_key x (key_view key.1.now) (key_view q.1.now) same) ∙ turned_key (key_view q.1.now) x
 
-        stays : (b : Bool) → is_same_cookie x (key_view q) ≡ b → Some p ≡ place x 0 xs → cond b (Some p) (place (key_view q) 0 xs) ≡ place (key_view q) 0 xs
-        stays true alike found = found ∙ place_alike x (key_view q) 0 xs alike
+        stays : (b : Bool) → is_same_cookie x (key_view q.1.now) ≡ b → Some p ≡ place x 0 xs → cond b (Some p) (place (key_view q.1.now) 0 xs) ≡ place (key_view q.1.now) 0 xs
+        stays true alike found = found ∙ place_alike x (key_view q.1.now) 0 xs alike
         stays false alike found = refl
 
-        by : (o : Option ℕ) → get (key_ord.ghosts).cmp m key ≡ o
-            → cond (is_same_cookie x (key_view q)) (Some p) (place (key_view q) 0 xs) ≡ place (key_view q) 0 (kept_with x xs)
+        by : (o : Option ℕ) → get summed_key_cmp m key ≡ o
+            → cond (is_same_cookie x (key_view q.1.now)) (Some p) (place (key_view q.1.now) 0 xs) ≡ place (key_view q.1.now) 0 (kept_with x xs)
         by None none =
             let last : length xs ≡ 0 + length xs = omega arith in
-            ap (λ k. cond (is_same_cookie x (key_view q)) (Some k) (place (key_view q) 0 xs)) (is ∙ ap (λ o. unwrap_or o (length xs)) none ∙ last)
-            ∙ sym (place_at_end (key_view q) x 0 xs (sym told_place ∙ none))
+            ap (λ k. cond (is_same_cookie x (key_view q.1.now)) (Some k) (place (key_view q.1.now) 0 xs)) (is ∙ ap (λ o. unwrap_or o (length xs)) none ∙ last)
+            ∙ sym (place_at_end (key_view q.1.now) x 0 xs (sym told_place ∙ none))
         by (Some k) found =
-            stays (is_same_cookie x (key_view q)) refl (had k found)
-            ∙ sym (places_stay (key_view q) x 0 p xs apart (sym (had k found)))
+            stays (is_same_cookie x (key_view q.1.now)) refl (had k found)
+            ∙ sym (places_stay (key_view q.1.now) x 0 p xs apart (sym (had k found)))
 
 -- ---- a list that is stored in turn
 

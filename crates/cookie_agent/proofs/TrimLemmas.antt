@@ -1,7 +1,7 @@
 -- Which places stay: the search by an order against what the standard leaves.
 use Rattle.std.proofs.Common.{◌≡◌, ℕ, zero, suc, ◌+◌, ◌<◌, ◌≤◌, Bool, true, false, cond, List, [], ◌∷◌, ◌++◌, length, get_or, map, take, Bor, None, refl, sym, ap, subst, ◌∙◌, arith, append-nil}
 use Rattle.std.proofs.Math.ListN.{get_or-map}
-use Rattle.std.proofs.lemmas.List.{get_or_default, length-map, map-append}
+use Rattle.std.proofs.lemmas.List.{get_or_default, length-map, map-append, take_more}
 use Rattle.std.proofs.lemmas.List.Elements.{All-append, All-cons, All-filter, All-nil, All-weaker, filter_more}
 use Rattle.std.specs.List.{count_by, filter}
 use Rattle.std.specs.List.Sorted.{IsPermutation}
@@ -77,7 +77,7 @@ in_order_more places i order false = (order.0, All-weaker (λ p. p < i) (λ p. p
 
 -- ---- few places
 
-counted_itself : (rules : List Rule) (group : Group) (c : KeptView) → counts (counted_by rules group) c c ≡ true
+pub counted_itself : (rules : List Rule) (group : Group) (c : KeptView) → counts (counted_by rules group) c c ≡ true
 counted_itself rules Domain c = of_text (text_of rules Domain) c
 counted_itself rules Site c = of_text (text_of rules Site) c
 counted_itself rules Whole c = refl
@@ -179,6 +179,27 @@ target_at [] i b is = refl
 target_at (x ∷ lent) zero b is = ap (λ c. c.now) is
 target_at (x ∷ lent) (suc i) b is = target_at lent i b is
 
+-- the cookie that is lent stands at its place
+pub target_there : (lent : List (Bor KeptView)) (place : ℕ) (b : Bor KeptView) → place < length lent → b ≡ get_or lent place b → b.now ≡ get_or (targets lent) place blank
+target_there lent place b below is =
+    let size = length-map lent (λ (c : Bor KeptView). c.now) in
+    target_at lent place b is ∙ get_or_default (targets lent) place b.now blank (omega (arith, below, size))
+
+-- one more cookie is lent
+pub lent-more : (lent : List (Bor KeptView)) (i : ℕ) (b : Bor KeptView) → i < length lent → b ≡ get_or lent i b → targets (take (i + 1) lent) ≡ targets (take i lent) ++ b.now ∷ []
+lent-more lent i b below is =
+    ap targets (take_more lent i b below)
+    ∙ map-append (λ (c : Bor KeptView). c.now) (take i lent) (get_or lent i b ∷ [])
+    ∙ ap (λ (c : Bor KeptView). targets (take i lent) ++ c.now ∷ []) (sym is)
+
+-- one more cookie is picked
+pub picked-more : (store : CookieStore) (places : List ℕ) (made : CookieStore) (i : ℕ) (x : KeptView) → i < length places → x ≡ get_or store (get_or places i 0) blank
+    → made ≡ picked store (take i places) → made ++ x ∷ [] ≡ picked store (take (i + 1) places)
+picked-more store places made i x below at so =
+    ap (λ l. l ++ x ∷ []) so
+    ∙ ap (λ (y : KeptView). picked store (take i places) ++ y ∷ []) at
+    ∙ sym (ap (picked store) (take_more places i 0 below) ∙ map-append (λ n. get_or store n blank) (take i places) (get_or places i 0 ∷ []))
+
 abbrev pub rank_with : ℕ → List ℕ → KeptView → Rank
 rank_with place text cookie = record { place = place; text = text; cookie = cookie }
 
@@ -186,6 +207,4 @@ rank_with place text cookie = record { place = place; text = text; cookie = cook
 pub rank_lent : (text : KeptView → List ℕ) (lent : List (Bor KeptView)) (place : ℕ) (b : Bor KeptView) (t : List ℕ) → place < length lent → b ≡ get_or lent place b → t ≡ text b.now
     → rank_with place t b.now ≡ rank_at text (targets lent) place
 rank_lent text lent place b t below is by_text =
-    let size = length-map lent (λ (c : Bor KeptView). c.now) in
-    let here : b.now ≡ get_or (targets lent) place blank = target_at lent place b is ∙ get_or_default (targets lent) place b.now blank (omega (arith, below, size)) in
-    ap (λ u. rank_with place u b.now) by_text ∙ ap (λ (c : KeptView). rank_with place (text c) c) here
+    ap (λ u. rank_with place u b.now) by_text ∙ ap (λ (c : KeptView). rank_with place (text c) c) (target_there lent place b below is)

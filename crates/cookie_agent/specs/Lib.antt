@@ -28,4 +28,5 @@ pub mod Storable
 pub mod Store
 pub mod Stored
 pub mod StoredCode
+pub mod SumsCode
 pub mod VerdictCode

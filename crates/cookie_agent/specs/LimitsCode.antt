@@ -1,12 +1,12 @@
 -- Mirrors private code: the order in which cookies go, and which stay, by their places.
 use Rattle.std.specs.Prelude.{ℕ, suc, pos, ◌<◌, ◌≤◌, ◌≡◌, ◌==◌, ◌&&◌, Bool, true, false, List, [], ◌∷◌, All, map, count_by, nat_lt, slice_index_or, Option, Some, None}
-use Rattle.std.specs.Cmp.Lexicographic.{slice_cmp}
 use Rattle.std.specs.Ordering.{bool_cmp, int_cmp, is_lt, nat_cmp, ordering_then}
 use Rattle.std.specs.declared.cmp.Ordering.{Ordering}
 use Rattle.std.specs.Str.{bytes_eq}
 use Rattle.cookie_browser.specs.Storage.{KeptView, CookieStore}
 use Rattle.cookie_browser.specs.Suffixes.{Rule, site_domain}
 use Rattle.cookie_browser.specs.declared.enforcement.Enforcement.TheVariants as enforcement
+use Rattle.cookie_agent.specs.SumsCode.{summed_cmp}
 use Rattle.cookie_agent.specs.declared.group.Group.{Group}
 use Rattle.cookie_agent.specs.declared.group.Group.TheVariants.{Domain, Site, Whole}
 use Rattle.cookie_agent.specs.declared.ranked.Ranked.{Ranked}
@@ -19,7 +19,7 @@ pub record Rank : Type 0 where
 
 abbrev pub rank_of : Ranked → Rank
 rank_of ranked =
-    record { place = ranked.place; text = ranked.text.now; cookie = ranked.cookie.now }
+    record { place = ranked.place; text = ranked.text; cookie = ranked.cookie.now }
 
 abbrev pub ranks : List Ranked → List Rank
 ranks items = map rank_of items
@@ -93,10 +93,10 @@ access_cmp left right =
     ordering_then (int_cmp left.cookie.last_access right.cookie.last_access)
     (nat_cmp left.place right.place)
 
--- by the text, then those that aren't secure-only first, and then by last access
+-- by the text and its sum, then those that aren't secure-only first, and then by last access
 abbrev pub text_cmp : Rank → Rank → Ordering
 text_cmp left right =
-    ordering_then (slice_cmp nat_cmp left.text right.text)
+    ordering_then (summed_cmp left.text right.text)
     (ordering_then (bool_cmp left.cookie.is_secure_only right.cookie.is_secure_only)
     (access_cmp left right))
 

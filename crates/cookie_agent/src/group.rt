@@ -33,7 +33,7 @@ impl Group {
         ensures { result ≡ shares self (rank_of left.now) (rank_of right.now) }
     {
         match self {
-            Group::Domain | Group::Site => right.text == left.text,
+            Group::Domain | Group::Site => right.text.is(&left.text),
             Group::Whole => true,
         }
     }
@@ -53,7 +53,7 @@ impl Group {
 fn compare_texts(left: &Ranked<'_>, right: &Ranked<'_>) -> Ordering
     ensures { result ≡ text_cmp (rank_of left.now) (rank_of right.now) }
 {
-    match left.text.cmp(right.text) {
+    match left.text.compare(&right.text) {
         Ordering::Equal => {
             compare_secure(left.cookie, right.cookie).then(compare_access(left, right))
         }

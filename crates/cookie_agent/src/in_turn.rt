@@ -1,8 +1,9 @@
 //! Cookies that are stored one after the other.
-ghost use Rattle.std.specs.Prelude.{◌≡◌, true, [], IfOk, OnOk};
-ghost use Rattle.cookie_browser.specs.Storage.{is_same_cookie, kept_with};
+ghost use Rattle.std.specs.Prelude.{◌≡◌, [], IfOk, OnOk};
+ghost use Rattle.cookie_browser.specs.Storage.{kept_with};
+ghost use Rattle.cookie_agent.specs.SentCode.{targets};
 ghost use Rattle.cookie_agent.specs.Stored.{IsApart, kept_with_each};
-ghost use Rattle.cookie_agent.specs.StoredCode.{ArePlaces, key_view};
+ghost use Rattle.cookie_agent.specs.StoredCode.{ArePlaces};
 
 use crate::key::Key;
 use crate::stored::StoredCookie;
@@ -10,36 +11,37 @@ use std::alloc::{AllocError, Global};
 use std::collections::BTreeMap;
 
 // The cookies, each of which was put in the place of the one before it with its key, or last.
-pub(crate) fn stored_in_turn(
+pub(crate) fn stored_in_turn<'a>(
     alloc: Global,
-    cookies: Vec<StoredCookie>,
-) -> Result<Vec<StoredCookie>, AllocError>
-    ensures value { IfOk result (λ made. made.items ≡ kept_with_each cookies.items []) }
-    ensures apart { IfOk result (λ made. IsApart made.items) }
+    cookies: &[&'a StoredCookie],
+) -> Result<Vec<&'a StoredCookie>, AllocError>
+    ensures value { IfOk result (λ made.
+        targets made.items ≡ kept_with_each (targets cookies.now) []) }
+    ensures apart { IfOk result (λ made. IsApart (targets made.items)) }
 {
     let mut made = Vec::new(alloc);
     let mut places = BTreeMap::new(alloc);
-    for cookie in cookies {
-        let key = cookie.key(alloc)?;
-        put_by_key(&mut made, &mut places, key, cookie)?;
+    for &cookie in cookies {
+        put_by_key(&mut made, &mut places, cookie)?;
     }
     Ok(made)
 }
 
-// Puts a cookie in the place of the one with its key, or last.
-fn put_by_key(
-    made: &mut Vec<StoredCookie>,
-    places: &mut BTreeMap<Key, usize>,
-    key: Key,
-    cookie: StoredCookie,
+// Puts a cookie in the place of the one with its key, or last. A key comes after its sum, since most differ in their sums,
+// so few are compared text by text.
+fn put_by_key<'a>(
+    made: &mut Vec<&'a StoredCookie>,
+    places: &mut BTreeMap<(u64, &'a Key), usize>,
+    cookie: &'a StoredCookie,
 ) -> Result<(), AllocError>
-    requires key { is_same_cookie cookie (key_view key) ≡ true }
-    requires places { ArePlaces places.now made.now.items }
-    requires apart { IsApart made.now.items }
-    ensures value { OnOk result (made.new.items ≡ kept_with cookie made.old.items) }
-    ensures places { OnOk result (ArePlaces places.new made.new.items) }
+    requires places { ArePlaces places.now (targets made.now.items) }
+    requires apart { IsApart (targets made.now.items) }
+    ensures value { OnOk result
+        (targets made.new.items ≡ kept_with cookie.now (targets made.old.items)) }
+    ensures places { OnOk result (ArePlaces places.new (targets made.new.items)) }
 {
-    let place = *places.entry(key)?.or_insert(made.len());
+    let key = cookie.key();
+    let place = *places.entry((key.sum(), key))?.or_insert(made.len());
     if place < made.len() {
         made[place] = cookie;
         return Ok(());

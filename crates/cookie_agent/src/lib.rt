@@ -26,6 +26,7 @@ mod site;
 mod slots;
 mod store;
 mod stored;
+mod summed;
 mod trim;
 mod verdict;
 

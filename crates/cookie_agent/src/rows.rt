@@ -7,6 +7,7 @@ ghost use Rattle.cookie_agent.specs.IndexCode.{is_around};
 ghost use Rattle.cookie_agent.specs.LimitsCode.{Ascends, IsInOrder, picked};
 ghost use Rattle.cookie_agent.specs.RowsCode.{AreListed, AreRows, AreTimed, has, held, slot_at};
 ghost use Rattle.cookie_agent.specs.Sent.{accessed};
+ghost use Rattle.cookie_agent.specs.SentCode.{targets};
 ghost use Rattle.cookie_agent.specs.Stored.{IsApart, is_named_in, is_of_domain};
 ghost use Rattle.cookie_agent.specs.StoredCode.{gives_place};
 
@@ -50,15 +51,15 @@ impl Rows {
         }
     }
 
-    // These cookies, each in the slot of its place.
-    pub(crate) fn of(alloc: Global, cookies: Vec<StoredCookie>) -> Result<Rows, AllocError>
-        ensures cookies { IfOk result (λ rows. held rows.slots.items ≡ cookies.items) }
+    // Copies of these cookies, each in the slot of its place.
+    pub(crate) fn of(alloc: Global, cookies: &[&StoredCookie]) -> Result<Rows, AllocError>
+        ensures cookies { IfOk result (λ rows. held rows.slots.items ≡ targets cookies.now) }
         ensures rows { IfOk result AreRows }
     {
         let mut rows = Rows::new(alloc);
-        for cookie in cookies {
+        for &cookie in cookies {
             let key = reversed(alloc, cookie.domain())?;
-            rows.append(alloc, key, cookie)?;
+            rows.append(alloc, key, cookie.clone(alloc)?)?;
         }
         Ok(rows)
     }

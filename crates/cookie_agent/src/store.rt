@@ -5,6 +5,7 @@ ghost use Rattle.cookie_browser.specs.RefusedCode.{kept_view, request_view};
 ghost use Rattle.cookie_browser.specs.Storage.{is_overlaid, kept_with, lasting};
 ghost use Rattle.cookie_agent.specs.Limits.{IsWithin, trimmed};
 ghost use Rattle.cookie_agent.specs.Sent.{IsOrderedHeader, accessed};
+ghost use Rattle.cookie_agent.specs.SentCode.{targets};
 ghost use Rattle.cookie_agent.specs.Sites.{TrimsApart};
 ghost use Rattle.cookie_agent.specs.Stored.{IsApart, is_named_in, is_of_domain, kept_with_each};
 ghost use Rattle.cookie_agent.specs.RowsCode.{held};
@@ -19,7 +20,7 @@ use crate::rows::Rows;
 use crate::scope::Scope;
 use crate::site::Site;
 use crate::stored::StoredCookie;
-use crate::trim::places_within;
+use crate::trim::{borrowed, kept_within, places_within};
 use cookie_browser::{BrowserRequest, KeptCookie, Suffixes};
 use jiff::civil::DateTime;
 use std::alloc::{AllocError, Global};
@@ -63,13 +64,14 @@ impl Store {
         ensures in_turn { IfOk result (λ store. store ≡ kept_with_each cookies.items []) }
         ensures same { IsApart cookies.items → IfOk result (λ store. store ≡ cookies.items) }
     {
-        Store::of_different(alloc, stored_in_turn(alloc, cookies)?)
+        let cookies: Vec<&StoredCookie> = cookies.iter().collect(alloc)?;
+        Store::of_different(alloc, &stored_in_turn(alloc, &cookies)?)
     }
 
-    // A store of different cookies.
-    fn of_different(alloc: Global, cookies: Vec<StoredCookie>) -> Result<Store, AllocError>
-        requires { IsApart cookies.items }
-        ensures { IfOk result (λ store. store ≡ cookies.items) }
+    // A store of copies of different cookies.
+    fn of_different(alloc: Global, cookies: &[&StoredCookie]) -> Result<Store, AllocError>
+        requires { IsApart (targets cookies.now) }
+        ensures { IfOk result (λ store. store ≡ targets cookies.now) }
     {
         let rows = Rows::of(alloc, cookies)?;
         Ok(Store { alloc, rows })
@@ -82,10 +84,24 @@ impl Store {
         ensures ok { OnOk result (self.new ≡ kept_with_each (lasting now cookies.items) self.old) }
         ensures err { OnErr result (self.new ≡ self.old) }
     {
-        let mut all = copies(self.alloc, self.cookies())?;
-        push_lasting(&mut all, cookies, now)?;
-        let all = stored_in_turn(self.alloc, all)?;
-        *self = Store::of_different(self.alloc, all)?;
+        *self = self.loaded(&cookies, now)?;
+        Ok(())
+    }
+
+    /// Does what [`load`](Store::load) and then [`trim`](Store::trim) say. With many cookies it is faster than the two,
+    /// since it stores only those that stay. Fails only if out of memory, and then the store is as before.
+    pub fn load_within(
+        &mut self,
+        cookies: Vec<StoredCookie>,
+        suffixes: &Suffixes,
+        limits: Limits,
+        now: DateTime,
+    ) -> Result<(), AllocError>
+        ensures ok { OnOk result (self.new ≡ trimmed suffixes.now limits now
+            (kept_with_each (lasting now cookies.items) self.old)) }
+        ensures err { OnErr result (self.new ≡ self.old) }
+    {
+        *self = self.loaded_within(&cookies, suffixes, limits, now)?;
         Ok(())
     }
 
@@ -192,7 +208,46 @@ impl Store {
     pub fn clone(&self) -> Result<Store, AllocError>
         ensures { IfOk result (λ made. made ≡ self.now) }
     {
-        Store::of_different(self.alloc, copies(self.alloc, self.cookies())?)
+        Store::of_different(self.alloc, &borrowed(self.alloc, self.cookies())?)
+    }
+
+    // A store of what `load` leaves.
+    fn loaded(&self, cookies: &[StoredCookie], now: DateTime) -> Result<Store, AllocError>
+        ensures { IfOk result (λ store.
+            store ≡ kept_with_each (lasting now cookies.now) self.now) }
+    {
+        Store::of_different(self.alloc, &self.with_each(cookies, now)?)
+    }
+
+    // A store of what `load_within` leaves.
+    fn loaded_within(
+        &self,
+        cookies: &[StoredCookie],
+        suffixes: &Suffixes,
+        limits: Limits,
+        now: DateTime,
+    ) -> Result<Store, AllocError>
+        ensures { IfOk result (λ store. store ≡ trimmed suffixes.now limits now
+            (kept_with_each (lasting now cookies.now) self.now)) }
+    {
+        let all = self.with_each(cookies, now)?;
+        let kept = kept_within(self.alloc, suffixes, &all, limits, now)?;
+        Store::of_different(self.alloc, &kept)
+    }
+
+    // The cookies after each of these was stored in turn, but for those that are expired at the time `now`.
+    fn with_each<'a>(
+        &'a self,
+        cookies: &'a [StoredCookie],
+        now: DateTime,
+    ) -> Result<Vec<&'a StoredCookie>, AllocError>
+        ensures value { IfOk result (λ all.
+            targets all.items ≡ kept_with_each (lasting now cookies.now) self.now) }
+        ensures apart { IfOk result (λ all. IsApart (targets all.items)) }
+    {
+        let mut all = borrowed(self.alloc, self.cookies())?;
+        push_lasting(&mut all, cookies, now)?;
+        stored_in_turn(self.alloc, &all)
     }
 
     // Where it allocates.
@@ -247,25 +302,14 @@ impl Store {
     }
 }
 
-// Copies of the cookies.
-fn copies(alloc: Global, cookies: Cookies<'_>) -> Result<Vec<StoredCookie>, AllocError>
-    ensures { IfOk result (λ made. made.items ≡ cookies.entry) }
-{
-    let mut made = Vec::new(alloc);
-    for cookie in cookies {
-        let copy = cookie.clone(alloc)?;
-        made.push(copy)?;
-    }
-    Ok(made)
-}
-
 // Puts the cookies that aren't expired after the others.
-fn push_lasting(
-    stored: &mut Vec<StoredCookie>,
-    cookies: Vec<StoredCookie>,
+fn push_lasting<'a>(
+    stored: &mut Vec<&'a StoredCookie>,
+    cookies: &'a [StoredCookie],
     now: DateTime,
 ) -> Result<(), AllocError>
-    ensures { OnOk result (stored.new.items ≡ stored.old.items ++ lasting now cookies.items) }
+    ensures { OnOk result (targets stored.new.items
+        ≡ targets stored.old.items ++ lasting now cookies.now) }
 {
     for cookie in cookies {
         if cookie.lasts(now) {

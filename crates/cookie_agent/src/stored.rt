@@ -21,11 +21,8 @@ use std::marker::Model;
 /// A cookie that a user agent stores (RFC 6265bis, Storage Model). Contracts see it as `cookie_browser` does.
 #[derive(Drop)]
 pub struct StoredCookie {
-    name: Vec<u8>,
+    key: Key,
     value: Vec<u8>,
-    domain: Vec<u8>,
-    is_host_only: bool,
-    path: Vec<u8>,
     is_secure_only: bool,
     is_http_only: bool,
     same_site: Enforcement,
@@ -41,11 +38,11 @@ impl Model for StoredCookie {
     ghost Value = { KeptView };
 
     ghost view = { λ c. record {
-      name = c.name.items;
+      name = c.key.name.items;
       value = c.value.items;
-      domain = c.domain.items;
-      is_host_only = c.is_host_only;
-      path = c.path.items;
+      domain = c.key.domain.items;
+      is_host_only = c.key.is_host_only;
+      path = c.key.path.items;
       is_secure_only = c.is_secure_only;
       is_http_only = c.is_http_only;
       same_site = c.same_site;
@@ -69,11 +66,13 @@ impl StoredCookie {
         }) }
     {
         Ok(StoredCookie {
-            name: copied(alloc, kept.name)?,
+            key: Key {
+                name: copied(alloc, kept.name)?,
+                domain: copied(alloc, kept.domain)?,
+                is_host_only: kept.is_host_only,
+                path: copied(alloc, kept.path)?,
+            },
             value: copied(alloc, kept.value)?,
-            domain: copied(alloc, kept.domain)?,
-            is_host_only: kept.is_host_only,
-            path: copied(alloc, kept.path)?,
             is_secure_only: kept.is_secure_only,
             is_http_only: kept.is_http_only,
             same_site: kept.same_site,
@@ -88,11 +87,11 @@ impl StoredCookie {
         ensures { kept_view result ≡ record self.now { expiry = None; last_access = pos 0 } }
     {
         KeptCookie {
-            name: self.name.as_slice(),
+            name: self.key.name.as_slice(),
             value: self.value.as_slice(),
-            domain: self.domain.as_slice(),
-            is_host_only: self.is_host_only,
-            path: self.path.as_slice(),
+            domain: self.domain(),
+            is_host_only: self.key.is_host_only,
+            path: self.key.path.as_slice(),
             is_secure_only: self.is_secure_only,
             is_http_only: self.is_http_only,
             same_site: self.same_site,
@@ -149,25 +148,20 @@ impl StoredCookie {
     }
 
     // What it is known by.
-    pub(crate) fn key(&self, alloc: Global) -> Result<Key, AllocError>
-        ensures { IfOk result (λ key. is_same_cookie self.now (key_view key) ≡ true) }
+    pub(crate) fn key(&self) -> &Key
+        ensures { is_same_cookie self.now (key_view result.now) ≡ true }
     {
-        Ok(Key {
-            name: copied(alloc, &self.name)?,
-            domain: copied(alloc, &self.domain)?,
-            is_host_only: self.is_host_only,
-            path: copied(alloc, &self.path)?,
-        })
+        &self.key
     }
 
     // Whether it has this name and this scope.
     pub(crate) fn is_named_in(&self, name: &[u8], scope: &Scope) -> bool
         ensures { result ≡ is_named_in name.now scope.now self.now }
     {
-        self.name.as_slice() == name
+        self.key.name.as_slice() == name
             && self.domain() == scope.domain()
-            && self.is_host_only == scope.is_host_only()
-            && self.path.as_slice() == scope.path()
+            && self.key.is_host_only == scope.is_host_only()
+            && self.key.path.as_slice() == scope.path()
     }
 
     // Whether its domain is this one, or below it.
@@ -181,7 +175,7 @@ impl StoredCookie {
     pub(crate) fn domain(&self) -> &[u8]
         ensures { result.now ≡ self.now.domain }
     {
-        self.domain.as_slice()
+        self.key.domain.as_slice()
     }
 
     // Sets its last access, if it is sent.
@@ -204,15 +198,15 @@ impl StoredCookie {
     pub(crate) fn path_length(&self) -> usize
         ensures { result ≡ path_length self.now }
     {
-        self.path.len()
+        self.key.path.len()
     }
 
     // Writes its name and its value after the text.
     pub(crate) fn push_pair(&self, header: &mut Vec<u8>) -> Result<(), AllocError>
         ensures { OnOk result (header.new.items ≡ header.old.items ++ sent_pair self.now) }
     {
-        if !self.name.is_empty() {
-            header.extend_from_slice(&self.name)?;
+        if !self.key.name.is_empty() {
+            header.extend_from_slice(&self.key.name)?;
             header.extend_from_slice(b"=")?;
         }
         header.extend_from_slice(&self.value)

@@ -1,16 +1,19 @@
 //! Which cookies stay if there are too many (RFC 6265bis, Storage Model).
-ghost use Rattle.std.specs.Prelude.{◌≡◌, ◌<◌, ◌≤◌, [], All, filter, length, map, count_by, slice_index_or, IfOk};
+ghost use Rattle.std.specs.Prelude.{◌≡◌, ◌<◌, ◌≤◌, ◌==◌, ℕ, List, [], true, All, filter, length, map, count_by, slice_index_or, IfOk};
 ghost use Rattle.std.specs.List.Sorted.{IsPermutation};
+ghost use Rattle.std.specs.Str.{bytes_eq};
 ghost use Rattle.cookie_browser.specs.Storage.{KeptView, lasting};
 ghost use Rattle.cookie_agent.specs.Limits.{IsWithin, counts, staying, trimmed};
 ghost use Rattle.cookie_agent.specs.LimitsCode.{AreOnce, IsInOrder, Rank, Rises, comes_before, counted_by, picked, rank_at, rank_of, ranks, stays, text_of};
 ghost use Rattle.cookie_agent.specs.SentCode.{targets};
+ghost use Rattle.cookie_agent.specs.SumsCode.{sum_of};
 
 use crate::cookies::Cookies;
 use crate::group::Group;
 use crate::limits::Limits;
 use crate::ranked::Ranked;
 use crate::stored::StoredCookie;
+use crate::summed::Summed;
 use cookie_browser::Suffixes;
 use jiff::civil::DateTime;
 use std::alloc::{AllocError, Global};
@@ -33,7 +36,38 @@ pub(crate) fn places_within(
     places_among(alloc, suffixes, &cookies, limits, now)
 }
 
-// The same for cookies in one list.
+// The cookies that stay, in their order.
+pub(crate) fn kept_within<'a>(
+    alloc: Global,
+    suffixes: &Suffixes,
+    cookies: &[&'a StoredCookie],
+    limits: Limits,
+    now: DateTime,
+) -> Result<Vec<&'a StoredCookie>, AllocError>
+    ensures { IfOk result (λ kept.
+        targets kept.items ≡ trimmed suffixes.now limits now (targets cookies.now)) }
+{
+    let places = places_among(alloc, suffixes, cookies, limits, now)?;
+    cookies_at(alloc, cookies, &places)
+}
+
+// The cookies at these places.
+fn cookies_at<'a>(
+    alloc: Global,
+    cookies: &[&'a StoredCookie],
+    places: &[usize],
+) -> Result<Vec<&'a StoredCookie>, AllocError>
+    requires { All (λ place. place < length (targets cookies.now)) places.now }
+    ensures { IfOk result (λ made. targets made.items ≡ picked (targets cookies.now) places.now) }
+{
+    let mut made = Vec::new(alloc);
+    for &place in places {
+        made.push(cookies[place])?;
+    }
+    Ok(made)
+}
+
+// The places of the cookies that stay, of those in one list.
 fn places_among(
     alloc: Global,
     suffixes: &Suffixes,
@@ -70,7 +104,10 @@ fn places_among(
 }
 
 // The cookies in one list.
-fn borrowed<'a>(alloc: Global, cookies: Cookies<'a>) -> Result<Vec<&'a StoredCookie>, AllocError>
+pub(crate) fn borrowed<'a>(
+    alloc: Global,
+    cookies: Cookies<'a>,
+) -> Result<Vec<&'a StoredCookie>, AllocError>
     ensures { IfOk result (λ made. targets made.items ≡ cookies.entry) }
 {
     let mut made = Vec::new(alloc);
@@ -121,10 +158,51 @@ fn within(
     if places.len() <= limit {
         return Ok(places);
     }
-    let ranked = sorted(ranked(alloc, suffixes, cookies, &places, group)?, group);
+    let ranked = ranked(alloc, suffixes, cookies, &places, group)?;
+    if are_few(alloc, &ranked, limit)? {
+        return Ok(places);
+    }
+    let ranked = sorted(ranked, group);
     let mut kept = staying_places(alloc, &ranked, group, limit)?;
     kept.sort_unstable();
     Ok(kept)
+}
+
+// Whether no text is there more often than the limit. It goes by the sums, so it may say no of texts that share one.
+fn are_few(alloc: Global, ranked: &[Ranked<'_>], limit: usize) -> Result<bool, AllocError>
+    ensures { IfOk result (λ few. few ≡ true → (text : List ℕ)
+        → count_by (λ rank. bytes_eq rank.text text) (ranks ranked.now) ≤ limit) }
+{
+    let mut sums = sums_of(alloc, ranked)?;
+    sums.sort_unstable();
+    Ok(is_spread(&sums, limit))
+}
+
+// The sums of the texts.
+fn sums_of(alloc: Global, ranked: &[Ranked<'_>]) -> Result<Vec<u64>, AllocError>
+    ensures { IfOk result (λ sums. sums.items
+        ≡ map (λ rank. sum_of rank.text []) (ranks ranked.now)) }
+{
+    let mut sums = Vec::new(alloc);
+    for rank in ranked {
+        sums.push(rank.text.sum())?;
+    }
+    Ok(sums)
+}
+
+// Whether no number of these, none of which is less than one before it, is there more often than the limit.
+fn is_spread(numbers: &[u64], limit: usize) -> bool
+    requires { (i j : ℕ) → i ≤ j → j < length numbers.now
+        → slice_index_or numbers.now i 0 ≤ slice_index_or numbers.now j 0 }
+    ensures { result ≡ true → (number : ℕ)
+        → count_by (λ other. other == number) numbers.now ≤ limit }
+{
+    for index in limit..numbers.len() {
+        if numbers[index] == numbers[index - limit] {
+            return false;
+        }
+    }
+    true
 }
 
 // The cookies at these places, with the texts that they are counted by.
@@ -143,7 +221,7 @@ fn ranked<'a>(
     for index in 0..places.len() {
         let place = places[index];
         let cookie = cookies[place];
-        let text = group.text(suffixes, cookie);
+        let text = Summed::of(group.text(suffixes, cookie));
         made.push(Ranked {
             place,
             text,

@@ -18,11 +18,11 @@ loop-index-preserved c =
     let place = get_or places i 0 in
     let text : KeptView → List ℕ = text_of c.args.suffixes.now c.args.group in
     let at : ℕ → Rank = rank_at text store in
-    let item : Ranked = record { place = place; text = c.text-text.result; cookie = c.index-cookies-place.result } in
+    let item : Ranked = record { place = place; text = c.of-text.result; cookie = c.index-cookies-place.result } in
     let size = length-map lent (λ b. b.now) in
     let inside : place < length store = All-get_or (λ p. p < length store) places i 0 c.loop-index-test.true c.requires in
     ap (λ l. ranks l) c.in_ok-push.ensures.items
     ∙ map-append rank_of c.loop-index.made.items (item ∷ [])
     ∙ ap (λ l. l ++ rank_of item ∷ []) c.loop-index.invariant
-    ∙ ap (λ r. map at (take i places) ++ r ∷ []) (rank_lent text lent place c.index-cookies-place.result c.text-text.result.now (omega (arith, inside, size)) c.index-cookies-place.is c.text-text.ensures)
+    ∙ ap (λ r. map at (take i places) ++ r ∷ []) (rank_lent text lent place c.index-cookies-place.result c.of-text.result (omega (arith, inside, size)) c.index-cookies-place.is (c.of-text.ensures ∙ c.text.ensures))
     ∙ sym (ap (map at) (take_more places i 0 c.loop-index-test.true) ∙ map-append at (take i places) (place ∷ []))

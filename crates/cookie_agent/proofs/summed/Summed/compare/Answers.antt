@@ -1,0 +1,7 @@
+-- The same texts tie.
+use Rattle.std.proofs.Common.{sym, ◌∙◌}
+use Rattle.cookie_agent.proofs.SumLemmas.{summed_same}
+use Rattle.cookie_agent.proofs.summed.Summed.compare.Goals as goal
+
+pub returns-then-is : goal.returns-then-is
+returns-then-is c = sym (summed_same c.args.self.now c.args.other.now (sym c.is.ensures ∙ c.if-is.true))
