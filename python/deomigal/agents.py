@@ -297,9 +297,8 @@ class Agent(Uncopied, contextlib.AbstractContextManager["Agent"]):
         number, second, most = number_of(form), self.second(None), text.count(b"\n") + 1
         bad = (SIZE * most)()
         with self.lock, self.rules.lock:
-            words = self.handle, self.rules, number, text, len(text), second, bad, most
+            words = self.handle, self.rules, number, text, len(text), *self.limits, second, bad, most
             count = checked(library.AGENT_LOAD(*words)).bad_lines
-            self.trim(second)
         # Three times as fast as `bad[:count]`.
         return memoryview(bad).cast("B").cast("Q")[:count].tolist()
 

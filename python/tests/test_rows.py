@@ -160,7 +160,8 @@ def agent_step(agent, step):
     numbers, *texts = rest.split(b"\n", 1 if word == b"load" else 3)
     numbers = [int(number) for number in numbers.split()]
     if word == b"load":
-        library.AGENT_LOAD(agent.handle, agent.rules, numbers[0], *texts, len(*texts), numbers[1], None, 0)
+        words = agent.handle, agent.rules, numbers[0], *texts, len(*texts), *agent.limits, numbers[1], None, 0
+        library.AGENT_LOAD(*words)
     elif word == b"save":
         _, text = library.answer_and_bytes(library.AGENT_SAVE, agent.handle, *numbers)
         return "DONE", len(text), text

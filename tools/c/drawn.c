@@ -902,7 +902,8 @@ static cookie_answer save(drawing *d, cookie_agent *agent, uint32_t form, uint64
 /* How a text is loaded. The bad lines are some that it has, in their order, and no more are told than have room. */
 static uint32_t load(drawing *d, cookie_agent *agent, cookie_suffixes *list, uint32_t form, text from, uint64_t now) {
     size_t bad[3] = {0}, room = below(d, 3), lines = 1, last = 0;
-    cookie_agent_loading loading = cookie_agent_load(agent, list, form, IN(from), now, bad, room);
+    cookie_agent_loading loading = cookie_agent_load(agent, list, form, IN(from), (size_t)below(d, 9), (size_t)below(d, 20),
+                                                     (size_t)below(d, 40), now, bad, room);
     for (size_t i = 0; i < from.length; i++)
         lines += from.bytes[i] == '\n';
     for (size_t i = 0; i < 3; i++) {

@@ -630,12 +630,14 @@ static cookie_answer request_step(cookie_agent *agent, cookie_suffixes *suffixes
     return (cookie_answer){reading.status, reading.refusal};
 }
 
+#define NO_LIMITS SIZE_MAX, SIZE_MAX, SIZE_MAX
+
 /* A text that is loaded: the bad lines are told with room for all, for the first, and for none. */
 static cookie_answer load(cookie_agent *agent, cookie_suffixes *suffixes, const uint8_t *bytes, size_t length, const long long n[2]) {
     size_t lines[40] = {0}, first = 0;
-    cookie_agent_loading all = cookie_agent_load(agent, suffixes, (uint32_t)n[0], bytes, length, (uint64_t)n[1], lines, 40);
-    cookie_agent_loading one = cookie_agent_load(agent, suffixes, (uint32_t)n[0], bytes, length, (uint64_t)n[1], &first, 1);
-    cookie_agent_loading none = cookie_agent_load(agent, suffixes, (uint32_t)n[0], bytes, length, (uint64_t)n[1], NULL, 0);
+    cookie_agent_loading all = cookie_agent_load(agent, suffixes, (uint32_t)n[0], bytes, length, NO_LIMITS, (uint64_t)n[1], lines, 40);
+    cookie_agent_loading one = cookie_agent_load(agent, suffixes, (uint32_t)n[0], bytes, length, NO_LIMITS, (uint64_t)n[1], &first, 1);
+    cookie_agent_loading none = cookie_agent_load(agent, suffixes, (uint32_t)n[0], bytes, length, NO_LIMITS, (uint64_t)n[1], NULL, 0);
     if (one.bad_lines != all.bad_lines || none.bad_lines != all.bad_lines || first != lines[0])
         fault("other bad lines");
     for (size_t i = 0; i < 40; i++)

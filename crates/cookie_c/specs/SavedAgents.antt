@@ -4,9 +4,11 @@ use Rattle.std.specs.Prelude.{◌≡◌, ◌==◌, ◌⊎◌, ◌++◌, ℕ, Lis
 use Rattle.jiff.specs.Types.{DateTime}
 use Rattle.cookie_browser.specs.Storage.{CookieStore, lasting}
 use Rattle.cookie_browser.specs.Suffixes.{Rule}
+use Rattle.cookie_agent.specs.Limits.{trimmed}
 use Rattle.cookie_agent.specs.Saved.{left_out}
 use Rattle.cookie_agent.specs.SavedForms.{bad_lines, carries, loaded_cookies, saved_text}
 use Rattle.cookie_agent.specs.Stored.{kept_with_each}
+use Rattle.cookie_agent.specs.declared.limits.Limits.{Limits}
 use Rattle.cookie_agent.specs.declared.saved.form.SavedForm.{SavedForm}
 use Rattle.cookie_agent.specs.declared.saved.form.SavedForm.TheVariants as forms
 use Rattle.cookie_c.specs.Agents.{AtStore}
@@ -91,11 +93,13 @@ loaded_with lines = record { status = code_of status.Done; bad_lines = length li
 abbrev pub with_head : List ℕ → List ℕ → List ℕ
 with_head numbers array = take (length array) numbers ++ drop (length numbers) array
 
--- Each cookie of the text that isn't expired is stored, in turn. The answer counts the bad lines, whose numbers are at
--- the head of the array.
-pub record LoadsText (rules : List Rule) (form : SavedForm) (now : DateTime) (text : List ℕ)
-    (answer : AgentLoading) (before after : List ℕ) (old new : CookieStore) : Type 0 where
-  pub left : new ≡ kept_with_each (lasting now (loaded_cookies form rules now text)) old
+-- Each cookie of the text that isn't expired is stored, in turn, and then what is above the limits is dropped. The answer
+-- counts the bad lines, whose numbers are at the head of the array.
+pub record LoadsText (rules : List Rule) (limits : Limits) (form : SavedForm) (now : DateTime)
+    (text : List ℕ) (answer : AgentLoading) (before after : List ℕ) (old new : CookieStore)
+    : Type 0 where
+  pub left : new ≡ trimmed rules limits now
+      (kept_with_each (lasting now (loaded_cookies form rules now text)) old)
   pub told : answer ≡ loaded_with (bad_lines form rules now text)
   pub listed : after ≡ with_head (bad_lines form rules now text) before
 
@@ -104,25 +108,25 @@ abbrev pub IsUnloaded : Status → AgentLoading → List ℕ → List ℕ → Ty
 IsUnloaded why answer before after = (answer ≡ unloaded why) × (after ≡ before)
 
 -- `LoadsText` in the form of this number at that second; or nothing is loaded
-abbrev pub Loads : List Rule → ℕ → ℕ → List ℕ → AgentLoading → List ℕ → List ℕ → CookieStore
-    → CookieStore → Type 0
-Loads rules number second text answer before after old new =
+abbrev pub Loads : List Rule → Limits → ℕ → ℕ → List ℕ → AgentLoading → List ℕ → List ℕ
+    → CookieStore → CookieStore → Type 0
+Loads rules limits number second text answer before after old new =
     ForForm number second
-    (λ form now. LoadsText rules form now text answer before after old new
+    (λ form now. LoadsText rules limits form now text answer before after old new
     ⊎ (IsUnloaded status.OutOfMemory answer before after × (new ≡ old)))
     (λ why. IsUnloaded why answer before after × (new ≡ old))
 
 -- `Loads` for the agent in the handle; `NoAgent` if it has none
-abbrev pub LoadsAt : List Rule → ℕ → ℕ → List ℕ → AgentLoading → List ℕ → List ℕ
+abbrev pub LoadsAt : List Rule → Limits → ℕ → ℕ → List ℕ → AgentLoading → List ℕ → List ℕ
     → Option CookieStore → Option CookieStore → Type 0
-LoadsAt rules number second text answer before after old new =
-    AtStore (λ had made. Loads rules number second text answer before after had made)
+LoadsAt rules limits number second text answer before after old new =
+    AtStore (λ had made. Loads rules limits number second text answer before after had made)
     (λ why. IsUnloaded why answer before after) old new
 
 -- the same by the rules that a handle has, which a handle without them refuses first
-abbrev pub LoadsBy : Option (List Rule) → ℕ → ℕ → List ℕ → AgentLoading → List ℕ → List ℕ
-    → Option CookieStore → Option CookieStore → Type 0
-LoadsBy None number second text answer before after old new =
+abbrev pub LoadsBy : Option (List Rule) → Limits → ℕ → ℕ → List ℕ → AgentLoading → List ℕ
+    → List ℕ → Option CookieStore → Option CookieStore → Type 0
+LoadsBy None limits number second text answer before after old new =
     IsUnloaded status.NoSuffixes answer before after × (new ≡ old)
-LoadsBy (Some rules) number second text answer before after old new =
-    LoadsAt rules number second text answer before after old new
+LoadsBy (Some rules) limits number second text answer before after old new =
+    LoadsAt rules limits number second text answer before after old new

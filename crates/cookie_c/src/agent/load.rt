@@ -10,7 +10,7 @@ use super::form::form_of;
 use crate::handle::with_content;
 use crate::sessions::time::time_at;
 use crate::status::Status;
-use cookie_agent::{LoadedCookies, Store};
+use cookie_agent::{Limits, LoadedCookies, Store};
 use cookie_browser::Suffixes;
 use std::alloc::Global;
 
@@ -25,9 +25,9 @@ pub struct AgentLoading {
 }
 
 /// Adds the cookies of a saved text to the agent's, as if each was stored in turn: it takes the place of the one with
-/// its name, domain, host-only flag and path, or comes last. Those that are expired are left out. `form` is 0 for
-/// Netscape's `cookies.txt`, and 1 for a JSON object a line. `now` is the time in seconds since 1970 in UTC. The rules
-/// are as before.
+/// its name, domain, host-only flag and path, or comes last. Then drops what is expired, and the cookies above the
+/// limits, as `cookie_agent_trim` does. `form` is 0 for Netscape's `cookies.txt`, and 1 for a JSON object a line. `now`
+/// is the time in seconds since 1970 in UTC. The rules are as before.
 ///
 /// A line is bad if it isn't a cookie that a user agent could have stored: it is skipped, and counted. So is a cookie
 /// for a public suffix and the hosts below it. The array `bad_lines` gets the numbers of the bad lines, counted from 1,
@@ -44,15 +44,24 @@ pub extern "C" fn cookie_agent_load(
     suffixes: &mut crate::suffixes::Suffixes,
     form: u32,
     text: &[u8],
+    per_domain: usize,
+    per_site: usize,
+    total: usize,
     now: u64,
     bad_lines: &mut [usize],
 ) -> AgentLoading
     ensures kept { suffixes_of suffixes.new ≡ suffixes_of suffixes.old }
-    ensures loaded { LoadsBy (suffixes_of suffixes.old) form now text.now result
-        bad_lines.old bad_lines.new (store_of agent.old) (store_of agent.new) }
+    ensures loaded { LoadsBy (suffixes_of suffixes.old)
+        (record { per_domain = per_domain; per_site = per_site; total = total }) form now text.now
+        result bad_lines.old bad_lines.new (store_of agent.old) (store_of agent.new) }
 {
+    let limits = Limits {
+        per_domain,
+        per_site,
+        total,
+    };
     with_content!(alloc, suffixes.handle,
-        Suffixes(rules) => load_by(alloc, agent, rules, form, text, now, bad_lines),
+        Suffixes(rules) => load_by(alloc, agent, rules, limits, form, text, now, bad_lines),
         _ => AgentLoading::none(Status::NoSuffixes),
     )
 }
@@ -62,16 +71,17 @@ fn load_by(
     alloc: Global,
     agent: &mut Agent,
     rules: &Suffixes,
+    limits: Limits,
     form: u32,
     text: &[u8],
     now: u64,
     bad_lines: &mut [usize],
 ) -> AgentLoading
-    ensures { LoadsAt rules.now form now text.now result bad_lines.old bad_lines.new
+    ensures { LoadsAt rules.now limits form now text.now result bad_lines.old bad_lines.new
         (store_of agent.old) (store_of agent.new) }
 {
     with_content!(alloc, agent.handle,
-        Store(store) => load(alloc, store, rules, form, text, now, bad_lines),
+        Store(store) => load(alloc, store, rules, limits, form, text, now, bad_lines),
         _ => AgentLoading::none(Status::NoAgent),
     )
 }
@@ -80,12 +90,13 @@ fn load(
     alloc: Global,
     store: &mut Store,
     rules: &Suffixes,
+    limits: Limits,
     form: u32,
     text: &[u8],
     now: u64,
     bad_lines: &mut [usize],
 ) -> AgentLoading
-    ensures { Loads rules.now form now text.now result
+    ensures { Loads rules.now limits form now text.now result
         bad_lines.old bad_lines.new store.old store.new }
 {
     let Some(form) = form_of(form) else {
@@ -103,7 +114,7 @@ fn load(
     else {
         return AgentLoading::none(Status::OutOfMemory);
     };
-    match store.load(cookies, now) {
+    match store.load_within(cookies, rules, limits, now) {
         Ok(()) => AgentLoading::give(&bad, bad_lines),
         Err(_) => AgentLoading::none(Status::OutOfMemory),
     }

@@ -1,7 +1,7 @@
 //! The user agent of the rows on sessions.
 use crate::browsing::{limits, outcome, site_of};
 use crate::step::{Answer, Step};
-use cookie_agent::{Agent, SavedForm, Store};
+use cookie_agent::{Agent, Limits, SavedForm, Store};
 use cookie_browser::Suffixes;
 use jiff::civil::DateTime;
 use std::alloc::Global;
@@ -57,7 +57,9 @@ impl<'s> Browser<'s> {
         let (form, mut store) = (SavedForm::JsonLines, Store::new(alloc));
         let saved = form.write(alloc, self.agent.cookies(), now).ok()?;
         let loaded = form.read(alloc, self.suffixes, &saved.text, now).ok()?;
-        store.load(loaded.cookies, now).ok()?;
+        store
+            .load_within(loaded.cookies, self.suffixes, Limits::usual(), now)
+            .ok()?;
         Some(Agent::with_store(self.suffixes, store))
     }
 }

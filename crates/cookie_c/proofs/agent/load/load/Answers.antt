@@ -2,8 +2,8 @@ use Rattle.std.proofs.Common.{inl, inr, refl, rules}
 use Rattle.cookie_c.proofs.AgentLemmas.{for_form}
 use Rattle.cookie_c.proofs.agent.load.load.Goals as goal
 
-pub returns-in-Ok-load : goal.returns-in-Ok-load
-returns-in-Ok-load c =
+pub returns-in-Ok-load_within : goal.returns-in-Ok-load_within
+returns-in-Ok-load_within c =
     for_form c.args.form c.args.now _ _ c.in-Some.form c.in-Some-time_at.now c.in-Some.ensures c.in-Some-time_at.ensures (inl (search rules))
 
 pub returns-in_default-read : goal.returns-in_default-read
