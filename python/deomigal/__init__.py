@@ -19,7 +19,7 @@ from .secrets import Keys, derive_key, keys_of, open_sealed, seal, sign, verify
 from .sessions import MAX_AGE, MAX_AGE_AND_EXPIRES, UNTIL_CLOSED, Session, Sessions
 from .tokens import Tokens
 
-__version__ = "0.4.0"
+__version__ = "0.5.0"
 __all__ = [
     "MAX_AGE", "MAX_AGE_AND_EXPIRES", "UNTIL_CLOSED", "Agent", "CookieError", "Jar", "Keys", "Session", "Sessions",
     "Tokens", "decoded_pairs", "derive_key", "errors", "explain", "keys_of", "open_sealed", "pairs", "print_cookie",
