@@ -902,8 +902,11 @@ static cookie_answer save(drawing *d, cookie_agent *agent, uint32_t form, uint64
 /* How a text is loaded. The bad lines are some that it has, in their order, and no more are told than have room. */
 static uint32_t load(drawing *d, cookie_agent *agent, cookie_suffixes *list, uint32_t form, text from, uint64_t now) {
     size_t bad[3] = {0}, room = below(d, 3), lines = 1, last = 0;
-    cookie_agent_loading loading = cookie_agent_load(agent, list, form, IN(from), (size_t)below(d, 9), (size_t)below(d, 20),
-                                                     (size_t)below(d, 40), now, bad, room);
+    size_t per_domain = one_in(d, 4) ? below(d, 9) : SIZE_MAX, per_site = one_in(d, 4) ? below(d, 20) : SIZE_MAX;
+    size_t total = one_in(d, 4) ? below(d, 40) : SIZE_MAX;
+    cookie_agent_loading loading = cookie_agent_load(agent, list, form, IN(from), per_domain, per_site, total, now, bad, room);
+    if (loading.status == COOKIE_DONE && cookie_agent_count(agent).length > total)
+        fault(d, agent_load_call, "more cookies than the limit");
     for (size_t i = 0; i < from.length; i++)
         lines += from.bytes[i] == '\n';
     for (size_t i = 0; i < 3; i++) {

@@ -93,7 +93,7 @@ access_cmp left right =
     ordering_then (int_cmp left.cookie.last_access right.cookie.last_access)
     (nat_cmp left.place right.place)
 
--- by the text and its sum, then those that aren't secure-only first, and then by last access
+-- by the text's sum, by the text, then those that aren't secure-only first, and then by last access
 abbrev pub text_cmp : Rank → Rank → Ordering
 text_cmp left right =
     ordering_then (summed_cmp left.text right.text)

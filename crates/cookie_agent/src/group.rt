@@ -33,7 +33,7 @@ impl Group {
         ensures { result ≡ shares self (rank_of left.now) (rank_of right.now) }
     {
         match self {
-            Group::Domain | Group::Site => right.text.is(&left.text),
+            Group::Domain | Group::Site => right.text.is_same(&left.text),
             Group::Whole => true,
         }
     }

@@ -27,8 +27,8 @@ pub(crate) fn stored_in_turn<'a>(
     Ok(made)
 }
 
-// Puts a cookie in the place of the one with its key, or last. A key comes after its sum, since most differ in their sums,
-// so few are compared text by text.
+// Puts a cookie in the place of the one with its key, or last. Each key stands after its sum: most sums differ, so few
+// keys are compared text by text.
 fn put_by_key<'a>(
     made: &mut Vec<&'a StoredCookie>,
     places: &mut BTreeMap<(u64, &'a Key), usize>,

@@ -42,17 +42,17 @@ impl<'a> Summed<'a> {
     }
 
     // Whether both are the same text.
-    pub(crate) fn is(&self, other: &Summed<'_>) -> bool
+    pub(crate) fn is_same(&self, other: &Summed<'_>) -> bool
         ensures { result ≡ bytes_eq self.now other.now }
     {
         self.sum == other.sum && self.text == other.text
     }
 
-    // By the sum, and then by the text. That two texts are the same is told faster than which comes first.
+    // By the sum, and then by the text. It tests first whether both are the same, which is faster than to order them.
     pub(crate) fn compare(&self, other: &Summed<'_>) -> Ordering
         ensures { result ≡ summed_cmp self.now other.now }
     {
-        if self.is(other) {
+        if self.is_same(other) {
             return Ordering::Equal;
         }
         match self.sum.cmp(&other.sum) {

@@ -58,7 +58,8 @@ fn cookies_at<'a>(
     places: &[usize],
 ) -> Result<Vec<&'a StoredCookie>, AllocError>
     requires { All (λ place. place < length (targets cookies.now)) places.now }
-    ensures { IfOk result (λ made. targets made.items ≡ picked (targets cookies.now) places.now) }
+    ensures { IfOk result (λ made.
+        targets made.items ≡ picked (targets cookies.now) places.now) }
 {
     let mut made = Vec::new(alloc);
     for &place in places {
@@ -168,7 +169,7 @@ fn within(
     Ok(kept)
 }
 
-// Whether no text is there more often than the limit. It goes by the sums, so it may say no of texts that share one.
+// Whether no text is there more often than the limit. It looks at the sums alone, so `false` says nothing.
 fn are_few(alloc: Global, ranked: &[Ranked<'_>], limit: usize) -> Result<bool, AllocError>
     ensures { IfOk result (λ few. few ≡ true → (text : List ℕ)
         → count_by (λ rank. bytes_eq rank.text text) (ranks ranked.now) ≤ limit) }
