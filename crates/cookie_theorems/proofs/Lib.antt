@@ -1,15 +1,11 @@
 pub mod ActLemmas
 pub mod AgentHeaderLemmas
 pub mod AlikeLemmas
-pub mod CountLemmas
 pub mod ExchangeLemmas
-pub mod FailLemmas
 pub mod FollowLemmas
 pub mod HeaderTextLemmas
-pub mod HeldLemmas
 pub mod HistoryLemmas
 pub mod OwnLemmas
-pub mod PageLemmas
 pub mod PlanLemmas
 pub mod PlannedCallLemmas
 pub mod ReadLemmas
@@ -17,9 +13,7 @@ pub mod RequestLemmas
 pub mod ReturnLemmas
 pub mod RevokingLemmas
 pub mod SeenLemmas
-pub mod SentLemmas
 pub mod ServeLemmas
-pub mod StandingLemmas
 pub mod Utf8Lemmas
 pub mod VisitCallLemmas
 pub mod VisitLemmas

@@ -21,9 +21,6 @@ use Rattle.cookie_theorems.specs.declared.site_request.SiteRequest.{SiteRequest}
 abbrev Set : Type 1
 Set = List ℕ → ℕ → Type 0
 
-same_self : (a : Set) → AreSame a a
-same_self a id second = (λ is. is, λ is. is)
-
 pub same_back : (old new : Set) → AreSame old new → AreSame new old
 same_back old new same id second = ((same id second).1, (same id second).0)
 
@@ -198,12 +195,6 @@ module _ (start : Set) (requests : List SiteRequest) where
   pub record Stands (done : ℕ) (now : Set) (answers : List (Option Opened)) : Type 0 where
     pub left : AreSame (left_after (take done requests) start) now
     pub more : (rest : List (Option Opened)) → AreAnswers now (drop done requests) rest → AreAnswers start requests (answers ++ rest)
-
-  pub at_first : Stands 0 start []
-  at_first = record {
-    left = same_self start;
-    more = λ rest are. are;
-  }
 
   module _ (i : ℕ) (old new : Set) (answers : List (Option Opened)) (before : Stands i old answers) (request : SiteRequest)
       (below : i < length requests) (is : request ≡ get_or requests i request) (forgotten : AreForgotten (second_of request.time) old new) where

@@ -1,9 +1,7 @@
 pub mod Acts
 pub mod Agreement
-pub mod Browsing
 pub mod Carrying
 pub mod Exchanges
-pub mod Holding
 pub mod Line
 pub mod OwnSessions
 pub mod PlanCode
@@ -12,5 +10,4 @@ pub mod Reading
 pub mod ReturnError
 pub mod Returning
 pub mod Revoking
-pub mod Standing
 pub mod Visits

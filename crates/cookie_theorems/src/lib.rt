@@ -1,11 +1,10 @@
-//! What holds over many requests: of a jar and its client, of a user agent, of sessions, and of the login.
+//! What holds over many requests: of a jar and its client, of a user agent, and of sessions.
 //!
 //! Each theorem is a function in the file of its name.
 #![tactic(auto)]
 
 mod act;
 mod agent_request;
-pub mod browse;
 mod carried;
 mod carrying;
 mod client;
@@ -20,10 +19,8 @@ mod returned;
 pub mod revoke_and_open;
 pub mod save_and_return;
 pub mod save_over_headers;
-mod sender;
 pub mod serve;
 mod site_request;
-mod timed_request;
 mod visited;
 pub mod visits;
 
@@ -37,7 +34,5 @@ pub use handling::Handling;
 pub use plan::Plan;
 pub use return_error::ReturnError;
 pub use returned::Returned;
-pub use sender::Sender;
 pub use site_request::SiteRequest;
-pub use timed_request::TimedRequest;
 pub use visited::Visited;

@@ -16,7 +16,6 @@ mod escapes;
 mod http;
 mod jar_calls;
 mod jars;
-mod login;
 mod printed;
 mod refusals;
 mod row;
@@ -35,7 +34,7 @@ use std::process::ExitCode;
 // The files, in the order in which they are played.
 const FILES: &str = "\
 dates cookies cookie_fields cut_cookies jars prefixes secrets headers refusals cipher sessions http browser suffixes \
-agent choices clients runs login";
+agent choices clients runs";
 
 // The public suffixes of the rows on browsers, user agents and sessions.
 const SUFFIXES: &[u8] = b"com\nco.uk\ngithub.io\n*.ck\n!www.ck\nexample\n";
@@ -55,8 +54,7 @@ fn wrong<'t>(alloc: Global, suffixes: &Suffixes, file: &str, row: &Row<'t>) -> O
         "agent" => row.wrong(agent::Agents::new(alloc, suffixes)),
         "choices" => row.wrong(choices::Choosers::new(alloc, suffixes)),
         "clients" => row.wrong(Some(clients::Clients::new(alloc))),
-        "runs" => row.wrong(Some(runs::Runs)),
-        _ => row.wrong(login::Logins::new(alloc)),
+        _ => row.wrong(Some(runs::Runs)),
     }
 }
 

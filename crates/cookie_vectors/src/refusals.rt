@@ -8,7 +8,6 @@ use cookie_client::{ClientError, PrefixKind, RunError};
 use cookie_http::HttpError;
 use cookie_session::{KeyTextError, OpenError, SessionError, VisitError};
 use cookie_theorems::ReturnError;
-use login_core::{AnswerError, Refusal, Route};
 use std::fmt;
 use std::fmt::{Debug, Display};
 
@@ -86,7 +85,6 @@ fn session_answer(step: Step<'_>) -> Answer {
         "VisitError::Session" => told::<VisitError<fmt::Error>>(step, SessionError::Over.into()),
         "VisitError::Gone" => told::<VisitError<fmt::Error>>(step, VisitError::Gone),
         "VisitError::Revocations" => told(step, VisitError::Revocations(fmt::Error)),
-        "AnswerError::Gone" => told(step, AnswerError::Gone),
         "ReturnError::Session" => told(step, ReturnError::Session(SessionError::Over)),
         "ReturnError::Http" => told(step, ReturnError::Http(HttpError::TooManyFields)),
         _ => name_answer(step),
@@ -102,15 +100,6 @@ fn name_answer(step: Step<'_>) -> Answer {
         "Host::PREFIX" => named(step, Host::PREFIX),
         "PrefixKind::Host" => named(step, PrefixKind::Host),
         "PrefixKind::Secure" => named(step, PrefixKind::Secure),
-        "Refusal::BadRequest" => named(step, Refusal::BadRequest),
-        "Refusal::Forbidden" => named(step, Refusal::Forbidden),
-        "Refusal::NotFound" => named(step, Refusal::NotFound),
-        "Refusal::OnlyGet" => named(step, Refusal::OnlyGet),
-        "Refusal::OnlyPost" => named(step, Refusal::OnlyPost),
-        "Refusal::Conflict" => named(step, Refusal::Conflict),
-        "Route::Home" => named(step, Route::Home),
-        "Route::LogIn" => named(step, Route::LogIn),
-        "Route::LogOut" => named(step, Route::LogOut),
         "Expiration::Session" => named(step, Expiration::Session),
         words => {
             let date = words.strip_prefix("Expiration::DateTime(")?;

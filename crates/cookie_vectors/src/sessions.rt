@@ -15,7 +15,7 @@ use crate::sources::Sevens;
 use crate::step::{Answer, Player, Step};
 use acts::do_acts;
 use browser::Browser;
-use cookie::{Cookie, CookieJar, field_cookies};
+use cookie::{Cookie, CookieBuilder, CookieJar, SameSite, field_cookies};
 use cookie_browser::Suffixes;
 use cookie_client::{Client, JarCall};
 use cookie_session::{NeverRevoked, Opened, Revocations, Visit, second_of};
@@ -24,7 +24,6 @@ use cookie_theorems::save_and_return::save_and_return;
 use cookie_theorems::save_over_headers::save_over_headers;
 use hex::encode;
 use jiff::civil::DateTime;
-use login_core::session_cookie;
 use requests::open_requests;
 pub use revoked::Revoked;
 use revoked::ids_of;
@@ -59,7 +58,13 @@ fn started(alloc: Global, site: &Site) -> Option<Visit> {
 
 impl<'s> Visitors<'s> {
     pub fn new(alloc: Global, suffixes: &'s Suffixes) -> Option<Visitors<'s>> {
-        let site = Site::new(alloc, session_cookie(true), 1200, 600)?;
+        let cookie = CookieBuilder::new("__Host-session", "")
+            .path("/")
+            .secure(true)
+            .http_only(true)
+            .same_site(SameSite::Lax)
+            .build();
+        let site = Site::new(alloc, cookie, 1200, 600)?;
         let (visit, aside) = (started(alloc, &site)?, started(alloc, &site)?);
         Some(Visitors {
             site,

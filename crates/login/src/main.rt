@@ -1,195 +1,270 @@
-//! `login`: a small web application as a CGI program (RFC 3875), which keeps all that it knows of a visitor in one
-//! session cookie, and which sessions are revoked in a database, if there is one.
+//! `login`: logs users in and out, as a CGI program (RFC 3875). A file of SQLite keeps which sessions are revoked.
 #![tactic(auto)]
 
-mod clock;
-mod gateway;
-mod members;
-mod revoked;
-mod users;
-
-use anyhow::Result;
-use cookie::field_cookies;
-use cookie_session::{KeyRing, NeverRevoked, Sessions};
-use gateway::Gateway;
+use anyhow::{Context, Result};
+use cookie::{CookieBuilder, CookieJar, Key, SameSite, are_equal, field_cookies};
+use cookie_session::{Ending, KeyRing, Sessions, Visit, VisitError, second_of};
+use jiff::Timestamp;
 use jiff::civil::DateTime;
-use login_core::{
-    AnswerError, IDLE, LIFETIME, LoginSite, Page, Refusal, Request, Response, User, answer,
-    session_cookie,
-};
+use jiff::tz::Offset;
 use rand::rngs::SysRng;
-use session_revocations::RevocationError;
-use std::env;
+use session_revocations::{RevocationError, SqliteRevocations};
+use sqlite::{Connection, File, FileStore};
 use std::hash::RandomState;
-use std::io::Write;
-use std::process::ExitCode;
+use std::io::Read;
+use std::time::Duration;
+use std::{env, io, thread};
 
-// What the home page has in its text if no database is named.
-const NO_DATABASE: &[u8] =
-    b"<!-- LOGIN_REVOKED isn't set: after a logout, a copy of the cookie still opens the session. -->\n";
+// The file of revoked sessions.
+type Revoked = SqliteRevocations<FileStore<File>>;
 
-// The response to a request that could be read.
-fn respond<'s>(
-    rt: &HostRuntime,
-    keys: &'s KeyRing,
-    users: &'s [User],
-    database: Option<&str>,
-    gateway: &Gateway,
-) -> Result<Response> {
-    let cookie = session_cookie(gateway.is_secure);
-    let sessions = Sessions {
-        keys,
-        cookie: &cookie,
-        lifetime: LIFETIME,
-        idle: IDLE,
-    };
-    let site = LoginSite { sessions, users };
-    let request = gateway.request();
-    let now = clock::now(rt)?;
-    if let Some(path) = database {
-        // A request without an open session needs no look-up, and an open of the database is slow.
-        let cookies = field_cookies(rt.alloc(), request.cookies)?;
-        if sessions.open(rt.alloc(), &cookies, now)?.is_some() {
-            return respond_looking_up(rt, path, &site, &request, now);
-        }
-    }
-    let state = RandomState::new(rt)?;
-    let mut rng = SysRng::new(rt);
-    let mut revoked = NeverRevoked;
-    match answer(
-        rt.alloc(),
-        state,
-        &site,
-        &request,
-        now,
-        &mut rng,
-        &mut revoked,
-    ) {
-        Err(AnswerError::Gone) => Ok(refused(rt, Refusal::Conflict)),
-        response => Ok(response?),
-    }
-}
-
-// The response to a request that has an open session, if that isn't revoked in the database. If that can't be said, or if
-// another request has renewed or ended the session, the client is to try again.
-fn respond_looking_up(
-    rt: &HostRuntime,
-    path: &str,
-    site: &LoginSite<'_>,
-    request: &Request<'_>,
+// How the site keeps its sessions, and the time of the request in UTC.
+#[derive(Drop)]
+struct Site<'s> {
+    sessions: Sessions<'s>,
+    revoked: Revoked,
     now: DateTime,
-) -> Result<Response> {
-    let mut revoked = match revoked::open(rt, path) {
-        Ok(revoked) => revoked,
-        Err(why) => return Ok(unavailable(rt, Some(why))),
-    };
-    let state = RandomState::new(rt)?;
-    let mut rng = SysRng::new(rt);
-    match answer(
-        rt.alloc(),
-        state,
-        site,
-        request,
-        now,
-        &mut rng,
-        &mut revoked,
-    ) {
-        Ok(response) => {
-            if let Page::Moved = response.page {
-                revoked.forget_past(rt, now);
+}
+
+// What a request is for.
+#[derive(Drop)]
+enum Action {
+    Look,
+    LogIn(String),
+    LogOut,
+}
+
+// What the program answers.
+#[derive(Drop)]
+struct Response {
+    status: u16,
+    cookies: Vec<String>,
+    page: String,
+}
+
+// Opens the file, or makes it. While another process has it open, it tries again for about two seconds.
+fn open(rt: &HostRuntime, path: &str) -> Result<Revoked, RevocationError> {
+    for _ in 0..180 {
+        match open_once(rt, path) {
+            Err(RevocationError::Busy) => {
+                thread::sleep(rt, Duration::from_millis(10));
             }
-            Ok(response)
+            opened => return opened,
         }
-        Err(AnswerError::Gone) => Ok(refused(rt, Refusal::Conflict)),
-        Err(AnswerError::Revocations) => Ok(unavailable(rt, revoked.failure)),
-        Err(error) => Err(error.into()),
     }
+    Err(RevocationError::Busy)
 }
 
-// The response that has the client try again, once the reason is on the standard error.
-fn unavailable(rt: &HostRuntime, why: Option<RevocationError>) -> Response {
-    if let Some(why) = why {
-        let _ = eprintln!(rt; "LOGIN_REVOKED: {why}");
-    }
-    refused(rt, Refusal::Unavailable)
+fn open_once(rt: &HostRuntime, path: &str) -> Result<Revoked, RevocationError> {
+    SqliteRevocations::new(Connection::open(rt, path)?)
 }
 
-fn refused(rt: &HostRuntime, refusal: Refusal) -> Response {
-    Response {
-        page: Page::Refused(refusal),
-        cookies: Vec::new(rt.alloc()),
-    }
-}
-
-// The response, and the request's parts.
-fn serve(rt: &HostRuntime) -> Result<()> {
-    let keys = users::keys(rt)?;
-    let users = users::users(rt)?;
-    let database = revoked::path(rt)?;
-    match gateway::read(rt)? {
-        Some(gateway) => {
-            let path = database.as_ref().map(|path| path.as_str());
-            let response = respond(rt, &keys, &users, path, &gateway)?;
-            write(rt, &response, gateway.base.as_str(), gateway.is_head)?;
-            note(rt, &response, path, gateway.is_head)
+// What a form asks for, or `None` if no user has its name and password.
+fn action_of(rt: &HostRuntime, form: &[u8]) -> Result<Option<Action>> {
+    let (mut user, mut password) = (String::new(rt.alloc()), String::new(rt.alloc()));
+    for pair in form_urlencoded::parse(rt.alloc(), form) {
+        let (name, value) = pair?;
+        match &*name {
+            "logout" => return Ok(Some(Action::LogOut)),
+            "user" => user = String::from_str(rt.alloc(), &*value)?,
+            "password" => password = String::from_str(rt.alloc(), &*value)?,
+            _ => (),
         }
-        None => write(rt, &refused(rt, Refusal::BadRequest), "", false),
     }
+    if user.is_empty() {
+        return Ok(Some(Action::Look));
+    }
+    // A site has slow hashes of its users' passwords.
+    let is_known = user.as_str() == "ann" && are_equal(password.as_bytes(), b"secret");
+    Ok(is_known.then_some(Action::LogIn(user)))
 }
 
-// Writes a response, without its page if it answers HEAD (RFC 3875 4.3.3).
-fn write(rt: &HostRuntime, response: &Response, base: &str, is_head: bool) -> Result<()> {
-    let text = if is_head {
-        response.head(rt.alloc(), base)?
-    } else {
-        response.text(rt.alloc(), base)?
-    };
-    rt.stdout().write_all(&text)?;
-    Ok(())
-}
-
-// Says at the end of the home page what the program can't do without a database.
-fn note(
+// Opens the session of the request, changes it, and saves it if it must be saved. After a logout there is no visit.
+fn act(
     rt: &HostRuntime,
-    response: &Response,
-    database: Option<&str>,
-    is_head: bool,
-) -> Result<()> {
-    if let (Page::Home(_), None, false) = (&response.page, database, is_head) {
-        rt.stdout().write_all(NO_DATABASE)?;
+    site: &mut Site<'_>,
+    jar: &mut CookieJar,
+    cookies: &[u8],
+    action: &Action,
+) -> Result<Option<Visit>, VisitError<RevocationError>> {
+    let (alloc, mut rng) = (rt.alloc(), SysRng::new(rt));
+    let Site {
+        sessions,
+        revoked,
+        now,
+    } = site;
+    let cookies = field_cookies(alloc, cookies)?;
+    let mut visit = sessions.visit(alloc, &cookies, *now, &mut rng, revoked)?;
+    match action {
+        Action::Look => {}
+        Action::LogIn(user) => {
+            visit.renew(sessions, *now, &mut rng)?;
+            visit.set("user", user.as_str())?;
+        }
+        Action::LogOut => {
+            return match sessions.log_out(alloc, jar, visit, *now, revoked)? {
+                Ending::Ended | Ending::Nobody => Ok(None),
+                Ending::Gone => Err(VisitError::Gone),
+            };
+        }
     }
+    sessions.save_if_needed(alloc, jar, &mut visit, *now, &mut rng, revoked)?;
+    Ok(Some(visit))
+}
+
+// Answers a request. If what is revoked isn't known, or another request came in between, the client is to try again.
+fn answer(rt: &HostRuntime, site: &mut Site<'_>, cookies: &[u8], form: &[u8]) -> Result<Response> {
+    let Some(action) = action_of(rt, form)? else {
+        return refused(rt, 403, "No user has this name and password.");
+    };
+    let mut jar = CookieJar::with_hasher(rt.alloc(), RandomState::new(rt)?);
+    match act(rt, site, &mut jar, cookies, &action) {
+        Ok(visit) => {
+            forget(rt, site, &action);
+            Ok(Response {
+                status: 200,
+                cookies: jar.set_cookie_texts()?,
+                page: page(rt, visit.as_ref())?,
+            })
+        }
+        Err(VisitError::Gone) => refused(rt, 409, "Another request came in between."),
+        Err(VisitError::Revocations(why)) => unavailable(rt, why),
+        Err(VisitError::Session(why)) => Err(why.into()),
+    }
+}
+
+// At each login and logout drops what is over. If that fails, it is kept.
+fn forget(rt: &HostRuntime, site: &mut Site<'_>, action: &Action) {
+    if let Action::Look = action {
+        return;
+    }
+    if let Err(why) = site.revoked.forget(second_of(site.now)) {
+        let _ = eprintln!(rt; "revoked sessions: {why}");
+    }
+}
+
+fn page(rt: &HostRuntime, visit: Option<&Visit>) -> Result<String> {
+    let Some(visit) = visit else {
+        return Ok(String::from_str(rt.alloc(), "You are logged out.")?);
+    };
+    match visit.session().get("user") {
+        Some(user) => Ok(format!(in rt.alloc(); "Hello, {user}!")?),
+        None => Ok(String::from_str(rt.alloc(), "Who are you?")?),
+    }
+}
+
+fn refused(rt: &HostRuntime, status: u16, why: &str) -> Result<Response> {
+    Ok(Response {
+        status,
+        cookies: Vec::new(rt.alloc()),
+        page: format!(in rt.alloc(); "{why} Please try again.")?,
+    })
+}
+
+fn unavailable(rt: &HostRuntime, why: RevocationError) -> Result<Response> {
+    eprintln!(rt; "revoked sessions: {why}")?;
+    refused(rt, 503, "Nobody can be logged in or out now.")
+}
+
+// A variable of the request, empty if there is none.
+fn variable(rt: &HostRuntime, name: &str) -> String {
+    env::var(rt, name).unwrap_or(String::new(rt.alloc()))
+}
+
+// The form of a request, empty if it sends none. A longer one isn't read.
+fn form(rt: &HostRuntime) -> Result<String> {
+    let length = variable(rt, "CONTENT_LENGTH");
+    let length = length.as_str().parse::<u64>().unwrap_or(0);
+    if length > 4096 {
+        return Ok(String::new(rt.alloc()));
+    }
+    Ok(io::read_to_string(rt.alloc(), rt.stdin().take(length))?)
+}
+
+// Answers one request, as a web server hands it over.
+fn serve(rt: &HostRuntime, sessions: Sessions<'_>, now: DateTime) -> Result<Response> {
+    let path = env::var(rt, "REVOKED_SESSIONS").context("REVOKED_SESSIONS")?;
+    let (form, cookies) = (form(rt)?, variable(rt, "HTTP_COOKIE"));
+    match open(rt, path.as_str()) {
+        Ok(revoked) => {
+            let mut site = Site {
+                sessions,
+                revoked,
+                now,
+            };
+            answer(rt, &mut site, cookies.as_bytes(), form.as_bytes())
+        }
+        Err(why) => unavailable(rt, why),
+    }
+}
+
+fn print(rt: &HostRuntime, response: &Response) -> Result<()> {
+    print!(rt;
+        "Status: {}\r\nContent-Type: text/plain; charset=utf-8\r\n",
+        response.status
+    )?;
+    for text in &response.cookies {
+        print!(rt; "Set-Cookie: {text}\r\n")?;
+    }
+    println!(rt; "Cache-Control: no-store\r\n\r\n{}", response.page)?;
     Ok(())
 }
 
-// Whether the guide's site is to be played. A web server may make arguments of an address (RFC 3875 4.4), so under one
-// they don't count.
-fn plays_members(rt: &HostRuntime) -> Result<bool> {
-    if env::var(rt, "GATEWAY_INTERFACE").is_ok() {
-        return Ok(false);
-    }
-    for word in env::args(rt)? {
-        if word.as_str() == "members" {
-            return Ok(true);
-        }
-    }
-    Ok(false)
+// Plays a request without a web server: a machine sends its cookie and a form. Returns the cookie that it has then.
+fn send(rt: &HostRuntime, site: &mut Site<'_>, cookie: &str, form: &str) -> Result<String> {
+    let response = answer(rt, site, cookie.as_bytes(), form.as_bytes())?;
+    println!(rt; "[{form}] {} {}", response.status, response.page)?;
+    let text = response
+        .cookies
+        .first()
+        .map_or(cookie, |text| text.as_str());
+    let pair = text.split_once(';').map_or(text, |(pair, _)| pair);
+    Ok(String::from_str(rt.alloc(), pair)?)
 }
 
-fn main(rt: HostRuntime) -> ExitCode {
-    if let Ok(true) = plays_members(&rt) {
-        return match members::main(rt) {
-            Ok(()) => ExitCode::SUCCESS,
-            Err(_) => ExitCode::FAILURE,
-        };
-    }
-    match serve(&rt) {
-        Ok(()) => ExitCode::SUCCESS,
-        Err(error) => {
-            let _ = eprintln!(rt; "{error}");
-            let _ = print!(rt;
-                "Status: 500 Internal Server Error\r\nContent-Type: text/plain\r\n\r\nNo answer.\n"
-            );
-            ExitCode::FAILURE
-        }
+// Plays a login, a copy of its cookie on a second machine, and the logout on the first, after which the copy opens no more.
+fn play(rt: &HostRuntime, sessions: Sessions<'_>, now: DateTime) -> Result<()> {
+    let revoked = open(rt, "revoked.db")?;
+    let mut site = Site {
+        sessions,
+        revoked,
+        now,
+    };
+    send(rt, &mut site, "", "user=ann&password=guess")?;
+    let first = send(rt, &mut site, "", "user=ann&password=secret")?;
+    let second = send(rt, &mut site, first.as_str(), "")?;
+    send(rt, &mut site, first.as_str(), "logout=1")?;
+    send(rt, &mut site, second.as_str(), "")?;
+    Ok(())
+}
+
+fn main(rt: HostRuntime) -> Result<()> {
+    let is_served = env::var(&rt, "GATEWAY_INTERFACE").is_ok();
+    let secret = if is_served {
+        env::var(&rt, "SESSION_SECRET").context("SESSION_SECRET")?
+    } else {
+        String::from_str(
+            rt.alloc(),
+            "a secret of at least thirty-two bytes, only for this run",
+        )?
+    };
+    let keys = KeyRing::new(rt.alloc(), Key::try_derive_from(secret.as_bytes())?)?;
+    let cookie = CookieBuilder::new("__Host-session", "")
+        .path("/")
+        .secure(true)
+        .http_only(true)
+        .same_site(SameSite::Lax)
+        .build();
+    let sessions = Sessions {
+        keys: &keys,
+        cookie: &cookie,
+        lifetime: 12 * 3600,
+        idle: 1800,
+    };
+    let now = Offset::UTC.to_datetime(Timestamp::now(&rt)?);
+    if is_served {
+        print(&rt, &serve(&rt, sessions, now)?)
+    } else {
+        play(&rt, sessions, now)
     }
 }

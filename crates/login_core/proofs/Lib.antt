@@ -1,6 +1,0 @@
-mod AnswerLemmas
-mod FailLemmas
-mod JoinLemmas
-mod PlanLemmas
-mod SetLemmas
-mod SpendLemmas
