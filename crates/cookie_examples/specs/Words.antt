@@ -1,38 +1,21 @@
 -- What the uses promise, in the words of a web application.
-use Rattle.std.specs.Prelude.{◌≡◌, true, ℕ, List, Option, Some, codes, ◌++◌, length, option_map}
+use Rattle.std.specs.Prelude.{◌≡◌, ℕ, List, Some, codes}
 use Rattle.std.specs.FinMap.{get, insert}
 use Rattle.jiff.specs.Types.{DateTime}
 use Rattle.cookie.specs.AnswersExactly.{IsStoredFor}
-use Rattle.cookie.specs.Jar.{JarState, Name, view}
+use Rattle.cookie.specs.Jar.{JarState, view}
 use Rattle.cookie.specs.Keys.{encryption_half}
 use Rattle.cookie.specs.Record.{Record}
 use Rattle.cookie.specs.Sealing.{IsSealingOf}
-use Rattle.cookie.specs.Walk.{Walks}
 use Rattle.cookie_session.specs.Seconds.{second_of}
 use Rattle.cookie_session.specs.Session.{SessionState}
 use Rattle.cookie_session.specs.Sessions.{IsStored, OpensUnrevoked, started_at}
 use Rattle.cookie_session.specs.declared.sessions.Sessions.{Sessions}
 
--- the cookie that the response sets or drops at a name
-abbrev pub change_at : JarState → Name → Option Record
-change_at jar name = option_map (λ entry. entry.cookie) (get jar.delta name)
-
--- this many cookies stand at the names, each counted once
-abbrev pub AreCounted : (Name → Option Record) → ℕ → Type 0
-AreCounted at count = (cookies : List Record) × Walks at cookies × (count ≡ length cookies)
-
 -- the jar shows a cookie `session` whose value is a sealing of the user under the key
 abbrev pub IsSignedIn : List ℕ → JarState → List ℕ → Type 0
 IsSignedIn key jar user =
     IsStoredFor (IsSealingOf (encryption_half key)) (view jar (codes "session")) user
-
--- what the jar shows as the flash message
-abbrev pub flash_of : JarState → Option (List ℕ)
-flash_of jar = option_map (λ cookie. cookie.value) (view jar (codes "flash"))
-
--- the cookie as the team's child jar stores it
-abbrev pub for_team : Record → Record
-for_team cookie = record cookie { name = codes "team." ++ cookie.name; http_only = Some true }
 
 -- the jar stores a session of the user that starts now
 abbrev pub IsLoggedIn : Sessions → JarState → DateTime → List ℕ → Type 0

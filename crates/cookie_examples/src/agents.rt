@@ -3,6 +3,7 @@ ghost use Rattle.std.specs.Prelude.{[], IfOk, map};
 ghost use Rattle.cookie_browser.specs.Storage.{kept_after_text};
 ghost use Rattle.cookie_agent.specs.Sent.{IsOrderedHeader};
 
+use anyhow::Result;
 use cookie_agent::{Agent, Site};
 use cookie_browser::Suffixes;
 use jiff::civil::DateTime;
@@ -23,4 +24,13 @@ pub fn next_header<'r>(
     let mut agent = Agent::new(alloc, suffixes);
     agent.read(site, text.as_bytes(), now)?;
     agent.header(site, now)
+}
+
+pub fn print(rt: &HostRuntime, now: DateTime) -> Result<()> {
+    let site = Site::new(rt.alloc(), "www.example.com", "/shop/cart", true)?;
+    let text = "cart=3; Domain=example.com; Path=/shop; Secure";
+    let suffixes = Suffixes::new(rt.alloc(), b"com\n")?;
+    let header = next_header(rt.alloc(), &suffixes, &site, text, now)?;
+    println!(rt; "browser: {}", str::from_utf8(&header)?)?;
+    Ok(())
 }

@@ -7,6 +7,7 @@ ghost use Rattle.cookie_client.specs.Calls.{IsFitCall};
 ghost use Rattle.cookie_client.specs.Exchange.{changes_by};
 
 use crate::following::are_fit;
+use anyhow::{Context, Result};
 use cookie_client::JarCall;
 use cookie_http::HttpError;
 use cookie_theorems::Exchanged;
@@ -33,4 +34,12 @@ pub fn carry(
     } else {
         Ok(None)
     }
+}
+
+pub fn print(rt: &HostRuntime, calls: &[JarCall<'_>], now: DateTime) -> Result<()> {
+    let carried = carry(rt.alloc(), calls, now)?.context("unfit")?;
+    for value in carried.request.get_all("cookie") {
+        println!(rt; "next request: {}", str::from_utf8(value.as_bytes())?)?;
+    }
+    Ok(())
 }

@@ -6,7 +6,10 @@ ghost use Rattle.cookie.specs.Jar.{Name, view};
 ghost use Rattle.cookie_client.specs.Agreement.{value_of};
 ghost use Rattle.cookie_client.specs.Calls.{IsFitCall, changes_of};
 
-use cookie_client::{ClientError, JarCall, Played, mirror};
+use crate::{carrying, generator};
+use anyhow::{Context, Result};
+use cookie::{Cookie, Key};
+use cookie_client::{ChildCall, ClientError, JarCall, Played, mirror};
 use jiff::civil::DateTime;
 use std::alloc::Global;
 
@@ -35,4 +38,18 @@ pub fn follow(
     } else {
         Ok(None)
     }
+}
+
+pub fn print(rt: &HostRuntime, now: DateTime) -> Result<()> {
+    let key = Key::generate(&mut generator());
+    let calls = [
+        JarCall::Signed(&key, ChildCall::Add(Cookie::new("cart", "3"))),
+        JarCall::Private(&key, [0; 12], ChildCall::Add(Cookie::new("user", "ann"))),
+    ];
+    let client = follow(rt.alloc(), &calls, now)?.context("unfit")?.client;
+    println!(rt; "client: {}", client.header()?)?;
+    for (name, value) in client.iter() {
+        println!(rt; "{name}: {value}")?;
+    }
+    carrying::print(rt, &calls, now)
 }

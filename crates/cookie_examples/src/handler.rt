@@ -3,14 +3,14 @@ ghost use Rattle.std.specs.Prelude.{◌≡◌, OnOk, OnErr, map};
 ghost use Rattle.cookie_session.specs.Revocations.{IsRevoked};
 ghost use Rattle.cookie_examples.specs.Words.{IsLoggedIn, KeepsTexts};
 
-use cookie::{Cookie, CookieJar};
-use cookie_session::{Revocations, Sessions, VisitError};
+use anyhow::{Context, Result};
+use cookie::{Cookie, CookieBuilder, CookieJar, Key, SameSite};
+use cookie_session::{KeyRing, NeverRevoked, Revocations, Sessions, VisitError};
 use jiff::civil::DateTime;
 use rand_core::TryRng;
 use std::alloc::Global;
 
-/// Logs the user in, at the time `now` in UTC. `cookies` are the request's, and `jar` is made of them. The session starts
-/// anew, keeps its other texts, and ends what the browser had. After an error the jar is as before.
+/// Logs the user in at the time `now` in UTC. The session starts anew, keeps its texts, and ends what the browser had.
 pub fn handle<G: TryRng, R: Revocations>(
     alloc: Global,
     sessions: &Sessions<'_>,
@@ -31,5 +31,30 @@ pub fn handle<G: TryRng, R: Revocations>(
     visit.renew(sessions, now, rng)?;
     visit.set("user", user)?;
     sessions.save_if_needed(alloc, jar, &mut visit, now, rng, revocations)?;
+    Ok(())
+}
+
+pub fn print(rt: &HostRuntime, now: DateTime) -> Result<()> {
+    let (alloc, mut rng) = (rt.alloc(), crate::generator());
+    let keys = KeyRing::new(alloc, Key::generate(&mut rng))?;
+    let cookie = CookieBuilder::new("__Host-session", "")
+        .path("/")
+        .secure(true)
+        .http_only(true)
+        .same_site(SameSite::Lax)
+        .build();
+    let sessions = Sessions {
+        keys: &keys,
+        cookie: &cookie,
+        lifetime: 12 * 3600,
+        idle: 1800,
+    };
+    let (jar, never) = (&mut CookieJar::new(alloc), &mut NeverRevoked);
+    handle(alloc, &sessions, &[], jar, "ann", now, &mut rng, never)?;
+    for text in &jar.set_cookie_texts()? {
+        println!(rt; "{text}")?;
+    }
+    let opened = sessions.open_jar(alloc, jar, now)?.context("nobody")?;
+    println!(rt; "logged in: {}", opened.session.get("user").unwrap_or(""))?;
     Ok(())
 }

@@ -1,46 +1,59 @@
-//! Uses of the cookie crates, as a caller writes them: each a short function with its contract. `main` runs them all.
+//! Uses of the cookie crates, as a caller writes them, a file for each crate. `main` runs them all.
 #![tactic(auto)]
 
-mod acting;
 mod agents;
-mod answer;
 mod carrying;
-mod counting;
 mod dates;
-mod flash;
 mod following;
 mod handler;
 mod headers;
-mod logout;
-mod printing;
 mod reading;
 mod refusal;
-mod removal;
-mod requests;
-mod resetting;
-mod responding;
-mod runtime;
 mod sealing;
 mod session;
-mod shop;
-mod show;
-mod team;
 
 use anyhow::Result;
-use cookie::read_date;
+use cookie::{CookieBuilder, CookieJar, Key, SameSite, read_date};
 use jiff::civil::DateTime;
+use rand::SeedableRng;
+use rand::rngs::StdRng;
+use std::hash::RandomState;
+
+// Reads a `Cookie` header, changes the jar, and prints the response's `Set-Cookie` lines. `now` is in UTC.
+fn answer(rt: &HostRuntime, header: &str, now: DateTime) -> Result<()> {
+    let mut rng = generator();
+    let (key, rng) = (&Key::generate(&mut rng), &mut rng);
+    let jar = CookieJar::with_hasher(rt.alloc(), RandomState::new(rt)?);
+    let mut jar = jar.with_originals(header)?;
+
+    jar.add(CookieBuilder::new("theme", "dark").path("/").build())?;
+    jar.remove(CookieBuilder::new("notice", "").path("/").build(), now)?;
+    let user = CookieBuilder::new("user", "ann").path("/").secure(true);
+    let user = user.http_only(true).same_site(SameSite::Lax).build();
+    jar.private_mut(key).add(user, rng)?;
+
+    for text in &jar.set_cookie_texts()? {
+        println!(rt; "Set-Cookie: {text}")?;
+    }
+    Ok(())
+}
+
+// A fixed seed, so that each run prints the same. A server takes `SysRng` of `rand`.
+fn generator() -> StdRng {
+    StdRng::seed_from_u64(1)
+}
 
 fn main(rt: HostRuntime) -> Result<()> {
-    // A fixed time, so that each run prints the same. A server takes `runtime::now`.
+    // A fixed time. A server takes `Timestamp::now` of `jiff`.
     let now = read_date("Wed, 21 Oct 2015 07:28:00 GMT").unwrap_or(DateTime::MIN);
-    show::request(&rt, now)?;
-    show::texts(&rt, now)?;
-    show::session(&rt)?;
-    show::handler(&rt, now)?;
-    show::flash(&rt, now)?;
-    show::calls(&rt, now)?;
-    show::browser(&rt, now)?;
-    show::headers(&rt)?;
-    shop::visits::print_visits(&rt, now)?;
-    show::runtime(&rt)
+    answer(&rt, "notice=1; lang=en", now)?;
+    reading::print(&rt, now)?;
+    dates::print(&rt)?;
+    sealing::print(&rt)?;
+    session::print(&rt)?;
+    handler::print(&rt, now)?;
+    following::print(&rt, now)?;
+    agents::print(&rt, now)?;
+    refusal::print(&rt)?;
+    headers::print(&rt)
 }

@@ -4,6 +4,8 @@ ghost use Rattle.cookie_browser.specs.ReceivedCode.{received_view};
 ghost use Rattle.cookie_browser.specs.RefusedCode.{kept_view, request_view};
 ghost use Rattle.cookie_browser.specs.Storage.{first_refusal};
 
+use anyhow::{Context, Result};
+use cookie_agent::Site;
 use cookie_browser::{BrowserRequest, KeptCookie, Received, Refusal, Suffixes, refused_by};
 use std::alloc::{AllocError, Global};
 
@@ -23,4 +25,20 @@ pub fn refusal_of(
 {
     let domain = received.attributes.bare_domain().to_ascii_lowercase(alloc)?;
     Ok(refused_by(suffixes, request, store, received, domain.as_slice(), new))
+}
+
+pub fn print(rt: &HostRuntime) -> Result<()> {
+    let site = Site::new(rt.alloc(), "www.example.com", "/shop/cart", true)?;
+    let (request, suffixes) = (site.request(), Suffixes::new(rt.alloc(), b"com\n")?);
+    let received = Received::of(b"cart=3; Domain=com")
+        .ok()
+        .context("no cookie")?;
+    let domain = received
+        .attributes
+        .bare_domain()
+        .to_ascii_lowercase(rt.alloc())?;
+    let new = KeptCookie::of(&suffixes, &request, &received, domain.as_slice());
+    let refusal = refusal_of(rt.alloc(), &suffixes, &request, &[], &received, &new)?;
+    println!(rt; "refused: {}", refusal.context("stored")?)?;
+    Ok(())
 }

@@ -1,9 +1,8 @@
 //! Texts that are sealed and opened.
-ghost use Rattle.std.specs.Prelude.{◌≡◌};
-ghost use Rattle.std.specs.Bool.{OnTrue};
+ghost use Rattle.std.specs.Prelude.{◌≡◌, ◌↔◌, IsTrue, length};
 ghost use Rattle.cookie_crypt.specs.Gcm.{IsWithin};
-ghost use Rattle.std.specs.Prelude.{◌↔◌, IsTrue, length};
 
+use anyhow::Result;
 use cookie_crypt::{Gcm, PreparedGcm, Steps};
 
 /// Seals a text in place and opens it again. It is then the same text, and only one that is too long is refused.
@@ -45,4 +44,14 @@ fn is_back(cipher: &PreparedGcm, nonce: &[u8; 12], name: &[u8], text: &mut [u8])
         Some(tag) => cipher.open_in_place(nonce, name, text, &tag, &mut steps),
         None => false,
     }
+}
+
+pub fn print(rt: &HostRuntime) -> Result<()> {
+    let (mut text, mut other) = ([1, 2, 3], [4, 5]);
+    let is_back = comes_back(&[7; 32], &[9; 12], b"name", &mut text);
+    println!(rt; "comes back: {is_back}")?;
+    let nonces = [[1; 12], [2; 12]];
+    let are_back = both_come_back(&[7; 32], &nonces, b"name", &mut text, &mut other);
+    println!(rt; "both come back: {are_back}")?;
+    Ok(())
 }

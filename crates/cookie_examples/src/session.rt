@@ -4,6 +4,8 @@ ghost use Rattle.cookie.specs.Memory.{Gives};
 ghost use Rattle.cookie.specs.declared.jar_error.JarError.TheVariants as refusal;
 ghost use Rattle.cookie_examples.specs.Words.{IsSignedIn};
 
+use crate::generator;
+use anyhow::Result;
 use cookie::{CookieBuilder, CookieJar, JarError, Key, SameSite};
 use rand_core::TryRng;
 use std::alloc::Global;
@@ -39,4 +41,18 @@ pub fn user_of(alloc: Global, jar: &CookieJar, key: &Key) -> Result<Option<Strin
         Some(cookie) => Ok(Some(String::from_str(alloc, cookie.value())?)),
         None => Ok(None),
     }
+}
+
+pub fn print(rt: &HostRuntime) -> Result<()> {
+    let (mut rng, mut jar) = (generator(), CookieJar::new(rt.alloc()));
+    let key = Key::generate(&mut rng);
+    sign_in(rt.alloc(), &mut jar, &key, "ann", &mut rng)?;
+    for key in [key, Key::generate(&mut rng)] {
+        let user = user_of(rt.alloc(), &jar, &key)?;
+        println!(rt;
+            "signed in: {}",
+            user.as_ref().map_or("nobody", |user| user.as_str())
+        )?;
+    }
+    Ok(())
 }

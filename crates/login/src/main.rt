@@ -87,28 +87,28 @@ fn act(
     cookies: &[u8],
     action: &Action,
 ) -> Result<Option<Visit>, VisitError<RevocationError>> {
-    let (alloc, mut rng) = (rt.alloc(), SysRng::new(rt));
     let Site {
         sessions,
         revoked,
         now,
     } = site;
+    let (alloc, mut rng, now) = (rt.alloc(), SysRng::new(rt), *now);
     let cookies = field_cookies(alloc, cookies)?;
-    let mut visit = sessions.visit(alloc, &cookies, *now, &mut rng, revoked)?;
+    let mut visit = sessions.visit(alloc, &cookies, now, &mut rng, revoked)?;
     match action {
         Action::Look => {}
         Action::LogIn(user) => {
-            visit.renew(sessions, *now, &mut rng)?;
+            visit.renew(sessions, now, &mut rng)?;
             visit.set("user", user.as_str())?;
         }
         Action::LogOut => {
-            return match sessions.log_out(alloc, jar, visit, *now, revoked)? {
+            return match sessions.log_out(alloc, jar, visit, now, revoked)? {
                 Ending::Ended | Ending::Nobody => Ok(None),
                 Ending::Gone => Err(VisitError::Gone),
             };
         }
     }
-    sessions.save_if_needed(alloc, jar, &mut visit, *now, &mut rng, revoked)?;
+    sessions.save_if_needed(alloc, jar, &mut visit, now, &mut rng, revoked)?;
     Ok(Some(visit))
 }
 

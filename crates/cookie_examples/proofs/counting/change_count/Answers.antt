@@ -1,8 +1,0 @@
-use Rattle.std.proofs.Common.{refl}
-use Rattle.std.proofs.lemmas.Iterator.Consumers.{YieldsList-from_rest, count_from_yields_List}
-use Rattle.cookie_examples.proofs.counting.change_count.Goals as goal
-
-pub returns : goal.returns
-returns c =
-    let cookies = c.delta.result in
-    (cookies, c.delta.ensures.walks, count_from_yields_List cookies c.count.result c.count.ensures.ran (YieldsList-from_rest cookies refl))
