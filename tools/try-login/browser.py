@@ -1,12 +1,9 @@
 """Chromium, as tools/try-login and tools/try-flask drive it."""
 
-import base64
 import fcntl
 import json
 import os
 import subprocess
-
-from steps import fail
 
 
 class Chromium:
@@ -18,27 +15,31 @@ class Chromium:
         # the browser reads commands from descriptor 3 and writes answers to 4
         ends = [fcntl.fcntl(end, fcntl.F_DUPFD, 20) for end in (to_browser, from_browser)]
         words = ["chromium", "--headless=new", "--no-sandbox", "--disable-gpu", "--remote-debugging-pipe"]
-        words += [f"--user-data-dir={profile}", "--window-size=480,400", *flags]
+        words += [f"--user-data-dir={profile}", *flags]
         self.process = subprocess.Popen(
             ["bash", "-c", f'exec "$@" 3<&{ends[0]} 4>&{ends[1]}', "bash", *words],
             stdout=subprocess.DEVNULL,
             stderr=subprocess.DEVNULL,
             pass_fds=ends,
         )
-        for end in ends:
+        for end in (*ends, to_browser, from_browser):
             os.close(end)
-        os.close(to_browser)
-        os.close(from_browser)
         self.rest, self.number, self.session, self.loads = b"", 0, None, 0
         target = self.call("Target.createTarget", url="about:blank")["targetId"]
         self.session = self.call("Target.attachToTarget", targetId=target, flatten=True)["sessionId"]
         self.call("Page.enable")
 
+    def __enter__(self):
+        return self
+
+    def __exit__(self, *_):
+        self.end()
+
     def message(self):
         while b"\0" not in self.rest:
             got = os.read(self.read_end, 65536)
             if not got:
-                fail("Chromium ended")
+                raise OSError("Chromium ended")
             self.rest += got
         text, _, self.rest = self.rest.partition(b"\0")
         message = json.loads(text)
@@ -56,7 +57,7 @@ class Chromium:
             message = self.message()
             if message.get("id") == self.number:
                 if "error" in message:
-                    fail(f"{method}: {message['error']}")
+                    raise OSError(f"{method}: {message['error']}")
                 return message["result"]
 
     def loaded(self, method, **parameters):
@@ -65,24 +66,29 @@ class Chromium:
         self.call(method, **parameters)
         while self.loads == before:
             self.message()
+        return self.page()
 
     def go(self, url):
-        self.loaded("Page.navigate", url=url)
-        return self.page()
+        return self.loaded("Page.navigate", url=url)
 
     def click(self, script):
-        """Does what the script says and waits for the page; where the server didn't pass the redirection on, follows the page's link."""
-        self.loaded("Runtime.evaluate", expression=script)
-        if "To the home page" in self.page() and "<h1>" not in self.page():
-            self.loaded("Runtime.evaluate", expression="document.querySelector('a').click()")
-        return self.page()
+        """Does what the script says, and waits for the page."""
+        return self.loaded("Runtime.evaluate", expression=script)
+
+    def post(self, url, **fields):
+        """Sends a form of the page that is shown, with these fields."""
+        return self.click(f"""
+            const form = document.createElement("form");
+            form.method = "post";
+            form.action = {json.dumps(url)};
+            for (const [name, value] of Object.entries({json.dumps(fields)})) {{
+                form.append(Object.assign(document.createElement("input"), {{ name, value }}));
+            }}
+            document.body.append(form);
+            form.submit();""")
 
     def page(self):
         return self.call("Runtime.evaluate", expression="document.documentElement.outerHTML")["result"]["value"]
-
-    def picture(self, path):
-        shot = self.call("Page.captureScreenshot", format="png", clip={"x": 0, "y": 0, "width": 480, "height": 330, "scale": 1})
-        path.write_bytes(base64.b64decode(shot["data"]))
 
     def cookies(self):
         return {cookie["name"]: cookie for cookie in self.call("Network.getCookies")["cookies"]}
@@ -101,9 +107,3 @@ class Chromium:
             self.process.wait(10)
         except subprocess.TimeoutExpired:
             self.process.kill()
-
-
-def log_in_script(user, password):
-    return f"""document.querySelector('[name=user]').value = {json.dumps(user)};
-        document.querySelector('[name=password]').value = {json.dumps(password)};
-        document.querySelector('button').click()"""

@@ -1,6 +1,5 @@
 """The site that tools/try-login plays, and the CGI servers in front of it."""
 
-import base64
 import http.server
 import os
 import secrets
@@ -11,84 +10,69 @@ import sys
 import tempfile
 import threading
 import time
-import urllib.parse
 import urllib.request
 from pathlib import Path
 
-from steps import fail
-
-PORTS = {"python3": 8765, "status": 8766}
-BASE = "/cgi-bin/login.cgi"
+PORT = 8765
+PATH = "/cgi-bin/login.cgi"
 NAME = "__Host-session"
-USERS = "ann:open sesame\n<b>bo</b>:x&y=z\nmallory:her own\n"
+
+
+def check(what, is_right, seen=""):
+    """Prints a step, and ends the run if it is wrong."""
+    if not is_right:
+        sys.exit(f"WRONG: {what}\n{seen}")
+    print(f"  {what}", flush=True)
 
 
 class Site:
-    """A folder with the program as a CGI program, its keys and its users. The servers may run it as another user, who has to read them."""
+    """A folder with the program as a CGI program. The servers may run it as another user, who has to write to `store`."""
 
     def __init__(self, program):
         self.folder = Path(tempfile.mkdtemp(prefix="try-login-"))
         self.folder.chmod(0o755)
         shutil.copy(program, self.folder / "login")
         (self.folder / "login").chmod(0o755)
-        self.keys = {name: base64.b64encode(secrets.token_bytes(64)).decode() for name in ("first", "second")}
-        (self.folder / "users").write_text(USERS)
-        self.program = self.folder / "cgi-bin" / "login.cgi"
-        self.program.parent.mkdir()
-        self.program.write_text(f'#!/bin/sh\n. {self.folder}/settings\nexec {self.folder}/login\n')
-        self.program.chmod(0o755)
+        self.secret = secrets.token_hex(32)
         self.store = self.folder / "store"
         self.store.mkdir()
         self.store.chmod(0o777)
+        self.program = self.folder / PATH[1:]
+        self.program.parent.mkdir()
+        # The field `Cookie` of the last request for each path.
         self.heard = {}
-        # What the program wrote to its standard error, by `Passing`.
-        self.said = []
-        self.set("first")
+        self.keep("revoked.db")
 
-    def set(self, *keys, now=None, revoked=None):
-        """From the next request on, these are the keys, the newest first, that is the time, if one is given, and that is the
-        file of revoked sessions, if one is given."""
-        (self.folder / "keys").write_text("".join(f"{self.keys[key]}\n" for key in keys))
-        settings = f"export LOGIN_KEYS={self.folder}/keys LOGIN_USERS={self.folder}/users\n"
-        if now is not None:
-            settings += f"export LOGIN_NOW={now}\n"
-        if revoked is not None:
-            settings += f"export LOGIN_REVOKED={revoked}\n"
-        (self.folder / "settings").write_text(settings)
+    def keep(self, name):
+        """From the next request on, the file of that name has the revoked sessions."""
+        settings = f"SESSION_SECRET={self.secret} REVOKED_SESSIONS={self.store}/{name}"
+        self.program.write_text(f"#!/bin/sh\nexport {settings}\nexec {self.folder}/login\n")
+        self.program.chmod(0o755)
 
 
 class Passing(http.server.BaseHTTPRequestHandler):
-    """A CGI server that passes the program's status and fields on (RFC 3875). It keeps the cookies of the last request for each path, and what the program wrote to its standard error."""
+    """A CGI server that passes the program's status and fields on (RFC 3875)."""
 
     site = None
 
     def answer(self):
-        path, _, query = self.path.partition("?")
         content = self.rfile.read(int(self.headers.get("Content-Length") or 0))
         # The fields were read as Latin-1: these are their bytes again.
         cookies = "; ".join(self.headers.get_all("Cookie", [])).encode("latin-1")
-        self.site.heard[path.removeprefix(BASE)] = cookies
-        environment = dict(
-            os.environ,
-            REQUEST_METHOD=self.command,
-            SCRIPT_NAME=BASE,
-            PATH_INFO=urllib.parse.unquote(path.removeprefix(BASE)),
-            QUERY_STRING=query,
-            CONTENT_LENGTH=str(len(content)),
-            HTTP_COOKIE=cookies,
-        )
+        self.site.heard[self.path] = cookies
+        words = {"GATEWAY_INTERFACE": "CGI/1.1", "REQUEST_METHOD": self.command, "CONTENT_LENGTH": str(len(content))}
+        environment = dict(os.environ, HTTP_COOKIE=cookies, **words)
         done = subprocess.run([self.site.program], input=content, env=environment, capture_output=True)
-        self.site.said.append(done.stderr.decode())
         head, _, page = done.stdout.partition(b"\r\n\r\n")
         fields = [line.split(": ", 1) for line in head.decode().split("\r\n")]
-        self.send_response(*next((int(value[:3]), value[4:]) for name, value in fields if name == "Status"))
+        self.send_response(next(int(value.split()[0]) for name, value in fields if name == "Status"))
         for name, value in fields:
             if name != "Status":
                 self.send_header(name, value)
         self.end_headers()
         self.wfile.write(page)
 
-    do_GET = do_HEAD = do_POST = answer
+    do_GET = do_POST = answer
 
     def log_message(self, *words):
         pass
@@ -102,14 +86,9 @@ class Server(http.server.ThreadingHTTPServer):
             super().handle_error(request, client_address)
 
 
-def passing(site):
-    """The handler of `Passing` for that site."""
-    return type("Site", (Passing,), {"site": site})
-
-
-def start(handler, port=0, certificate=None):
-    """Starts a server on that port, or on one that is free, over TLS with a certificate."""
-    server = Server(("127.0.0.1", port), handler)
+def start(handler, certificate=None):
+    """Starts a server on a free port, over TLS with a certificate."""
+    server = Server(("127.0.0.1", 0), handler)
     if certificate:
         context = ssl.SSLContext(ssl.PROTOCOL_TLS_SERVER)
         context.load_cert_chain(certificate.path, certificate.key)
@@ -119,20 +98,16 @@ def start(handler, port=0, certificate=None):
     return server
 
 
-def serve(name, site):
-    """Starts the server of that name over the folder; what ends it again."""
-    port = PORTS[name]
-    if name == "status":
-        server = start(passing(site), port)
-        return lambda: (server.shutdown(), server.server_close())
+def serve(site):
+    """Starts Python's CGI server over the site's folder; what ends it again."""
     with open(site.folder / "log", "w") as log:
-        command = [sys.executable, "-m", "http.server", "--cgi", "--bind", "127.0.0.1", str(port)]
+        command = [sys.executable, "-m", "http.server", "--cgi", "--bind", "127.0.0.1", str(PORT)]
         server = subprocess.Popen(command, cwd=site.folder, stdout=log, stderr=log)
     for _ in range(100):
         try:
-            urllib.request.urlopen(f"http://127.0.0.1:{port}/users", timeout=1).close()
+            urllib.request.urlopen(f"http://127.0.0.1:{PORT}/log", timeout=1).close()
             return lambda: (server.terminate(), server.wait())
         except OSError:
             time.sleep(0.1)
     server.terminate()
-    fail(f"{name} doesn't answer")
+    sys.exit("python3 -m http.server doesn't answer")

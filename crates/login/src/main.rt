@@ -15,6 +15,9 @@ use std::io::Read;
 use std::time::Duration;
 use std::{env, io, thread};
 
+// Each user and password. A site has slow hashes of its users' passwords.
+const USERS: [(&str, &str); 2] = [("ann", "secret"), ("bob", "hidden")];
+
 // The file of revoked sessions.
 type Revoked = SqliteRevocations<FileStore<File>>;
 
@@ -74,8 +77,9 @@ fn action_of(rt: &HostRuntime, form: &[u8]) -> Result<Option<Action>> {
     if user.is_empty() {
         return Ok(Some(Action::Look));
     }
-    // A site has slow hashes of its users' passwords.
-    let is_known = user.as_str() == "ann" && are_equal(password.as_bytes(), b"secret");
+    let is_known = USERS.iter().any(|(name, known)| {
+        user.as_str() == *name && are_equal(password.as_bytes(), known.as_bytes())
+    });
     Ok(is_known.then_some(Action::LogIn(user)))
 }
 
