@@ -12,6 +12,7 @@ use session_revocations::{RevocationError, SqliteRevocations};
 use sqlite::{Connection, File, FileStore};
 use std::hash::RandomState;
 use std::io::Read;
+use std::rt::Env;
 use std::time::Duration;
 use std::{env, io, thread};
 
@@ -185,10 +186,18 @@ fn form(rt: &HostRuntime) -> Result<String> {
     Ok(io::read_to_string(rt.alloc(), rt.stdin().take(length))?)
 }
 
+// The request's `Cookie` field, empty if there is none or if it has more than 64 KB. It needn't be UTF-8.
+fn cookies(rt: &HostRuntime) -> Result<Vec<u8>> {
+    let mut bytes = vec![in rt.alloc(); 0; 65536]?;
+    let length = rt.var("HTTP_COOKIE", &mut bytes).unwrap_or(0);
+    bytes.truncate(length);
+    Ok(bytes)
+}
+
 // Answers one request, as a web server hands it over.
 fn serve(rt: &HostRuntime, sessions: Sessions<'_>, now: DateTime) -> Result<Response> {
     let path = env::var(rt, "REVOKED_SESSIONS").context("REVOKED_SESSIONS")?;
-    let (form, cookies) = (form(rt)?, variable(rt, "HTTP_COOKIE"));
+    let (form, cookies) = (form(rt)?, cookies(rt)?);
     match open(rt, path.as_str()) {
         Ok(revoked) => {
             let mut site = Site {
@@ -196,7 +205,7 @@ fn serve(rt: &HostRuntime, sessions: Sessions<'_>, now: DateTime) -> Result<Resp
                 revoked,
                 now,
             };
-            answer(rt, &mut site, cookies.as_bytes(), form.as_bytes())
+            answer(rt, &mut site, &cookies, form.as_bytes())
         }
         Err(why) => unavailable(rt, why),
     }
