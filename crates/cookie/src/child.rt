@@ -73,7 +73,7 @@ impl<'a, S: Storing> ChildJar<'a, S> {
     /// Adds a cookie, as the child jar stores it. A `get` of its name then returns its name and value.
     ///
     /// Fails only with `JarError::OutOfMemory`, and then leaves the jar as it was.
-    /// Example: `add_for_team` in crates/cookie_examples/src/team.rt.
+    /// Example: `sign_in` in crates/cookie_examples/src/session.rt.
     pub fn add(&mut self, cookie: Cookie<'static>) -> Result<(), JarError>
         ensures gives { Gives refusal.OutOfMemory result (λ _.
             jar_of self.new ≡ after
@@ -93,7 +93,6 @@ impl<'a, S: Storing> ChildJar<'a, S> {
     ///
     /// Fails only with `JarError::OutOfMemory`, and then leaves the jar as it was. Through a signed child jar it never
     /// fails if there is no such original.
-    /// Example: `remove_in_scope` in crates/cookie_examples/src/removal.rt.
     pub fn remove(&mut self, cookie: Cookie<'static>, now: DateTime) -> Result<(), JarError>
         ensures gives { Gives refusal.OutOfMemory result (λ _.
             jar_of self.new ≡ after

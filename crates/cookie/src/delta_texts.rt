@@ -15,7 +15,7 @@ impl CookieJar {
     /// Names and values are escaped, and a path and a domain aren't. So the delta is refused as
     /// `TextsError::InvalidValue` if a path or a domain in it holds a control character, such as a line break, or a
     /// `;`. This comes before anything is allocated. Else it fails only if out of memory.
-    /// Example: `answer` in crates/cookie_examples/src/answer.rt.
+    /// Example: `answer` in crates/cookie_examples/src/main.rt.
     pub fn set_cookie_texts(&self) -> Result<Vec<String>, TextsError>
         ensures once { IfOk result (λ texts.
             AreDeltaTextsOnce self.now.delta (map string_bytes texts.items)) }

@@ -56,7 +56,7 @@ impl CookieJar {
     /// `with_hasher`.
     ///
     /// After any changes, each of its two maps has under each name what looking back through the changes finds.
-    /// Example: `jar_of_user` in crates/cookie_examples/src/show.rt.
+    /// Example: `print` in crates/cookie_examples/src/session.rt.
     pub fn new(alloc: Global) -> CookieJar
         ensures empty { result ≡ empty_jar }
         ensures history { (changes : List Change)
@@ -69,7 +69,7 @@ impl CookieJar {
     /// of `state`. It doesn't allocate.
     ///
     /// After any changes, each of its two maps has under each name what looking back through the changes finds.
-    /// Example: `request_jar` in crates/cookie_examples/src/requests.rt.
+    /// Example: `answer` in crates/cookie_examples/src/main.rt.
     pub fn with_hasher(alloc: Global, state: RandomState) -> CookieJar
         ensures empty { result ≡ empty_jar }
         ensures history { (changes : List Change)
@@ -92,7 +92,7 @@ impl CookieJar {
 
     /// Returns the cookie under `name`: the one that was added, or else the original. Returns `None` if there is
     /// neither, or if it was removed.
-    /// Example: `take_flash` in crates/cookie_examples/src/flash.rt.
+    /// Example: `print` in crates/cookie_examples/src/headers.rt.
     pub fn get(&self, name: &str) -> Option<&Cookie<'static>>
         ensures { option_map (λ c. c.now.fields) result ≡ view self.now name.now }
     {
@@ -136,7 +136,7 @@ impl CookieJar {
     /// Adds a cookie, in place of the one that the jar shows under its name.
     ///
     /// Fails only with `JarError::OutOfMemory`, and then leaves the jar as it was.
-    /// Example: `answer` in crates/cookie_examples/src/answer.rt.
+    /// Example: `answer` in crates/cookie_examples/src/main.rt.
     pub fn add(&mut self, cookie: Cookie<'static>) -> Result<(), JarError>
         ensures gives { Gives refusal.OutOfMemory result (λ _.
             self.new ≡ after (Add cookie.entry.fields) self.old) }
@@ -152,7 +152,7 @@ impl CookieJar {
     ///
     /// Fails only with `JarError::OutOfMemory`, and only if there is such an original. It then leaves the jar as it
     /// was.
-    /// Example: `take_flash` in crates/cookie_examples/src/flash.rt.
+    /// Example: `answer` in crates/cookie_examples/src/main.rt.
     pub fn remove(&mut self, cookie: Cookie<'static>, now: DateTime) -> Result<(), JarError>
         ensures gives { Gives refusal.OutOfMemory result (λ _.
             self.new ≡ after (Remove cookie.entry.fields now) self.old) }
@@ -206,7 +206,12 @@ impl CookieJar {
 
     /// Iterates over the cookies that the jar shows, each name once: those that were added, and the originals under
     /// whose names nothing was added or removed. It doesn't allocate.
-    /// Example: `shown_count` in crates/cookie_examples/src/counting.rt.
+    ///
+    /// ```
+    /// for cookie in jar.iter() {
+    ///     println!(rt; "{}", cookie.stripped())?;
+    /// }
+    /// ```
     pub fn iter(&self) -> Iter<'_>
         ensures walks { Walks (view self.now) result }
 
@@ -221,7 +226,6 @@ impl CookieJar {
 
     /// Iterates over the cookies that were changed, each name once: those that were added, and those that tell the
     /// client to drop an original. It doesn't allocate.
-    /// Example: `change_count` in crates/cookie_examples/src/counting.rt.
     pub fn delta(&self) -> Delta<'_>
         ensures walks { Walks (λ n. option_map (λ m. m.cookie) (get self.now.delta n)) result }
 

@@ -53,7 +53,7 @@ impl Site {
     /// The site of a host name, without its port, and of a request's path, without its query. The host is taken in
     /// lower case. A path that doesn't begin with `/` gets one, so an empty one is `/`. The request is a same-site
     /// top-level navigation with a safe method, until `with_context`. Fails only if out of memory.
-    /// Example: `browser` in crates/cookie_examples/src/show.rt.
+    /// Example: `print` in crates/cookie_examples/src/agents.rt.
     pub fn new(alloc: Global, host: &str, path: &str, is_secure: bool) -> Result<Site, AllocError>
         ensures { IfOk result (λ site.
             site ≡ site_of host.now false path.now is_secure) }

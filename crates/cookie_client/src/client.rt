@@ -58,7 +58,7 @@ impl Client {
     }
 
     /// Iterates over the names that it holds, with their values, in byte order of the names. It doesn't allocate.
-    /// Example: `held_count` in crates/cookie_examples/src/counting.rt.
+    /// Example: `print` in crates/cookie_examples/src/following.rt.
     pub fn iter(&self) -> Pairs<'_>
         ensures listed { result ≡ entries self.now }
 
@@ -130,7 +130,7 @@ impl Client {
     ///
     /// If it holds nothing under the empty name, the header's cookies, decoded, are those names and values. None is
     /// refused, and none is skipped by `CookieJar::with_originals`. Fails only with `ClientError::OutOfMemory`.
-    /// Example: `print_held` in crates/cookie_examples/src/show.rt.
+    /// Example: `print` in crates/cookie_examples/src/following.rt.
     pub fn header(&self) -> Result<String, ClientError>
         ensures text { Gives refusal.OutOfMemory result (λ header.
             string_bytes header ≡ header_text self.now) }

@@ -55,7 +55,7 @@ impl<'c> Model for Cookie<'c> {
 
 impl<'c> Cookie<'c> {
     /// A cookie with this name and value, and no attribute set.
-    /// Example: `answer` in crates/cookie_examples/src/answer.rt.
+    /// Example: `respond` in crates/cookie_examples/src/headers.rt.
     pub fn new(name: &'c str, value: &'c str) -> Cookie<'c>
         ensures { result ≡ record { fields = plain name.now value.now; raw = no_raw_forms } }
     {
@@ -75,7 +75,6 @@ impl<'c> Cookie<'c> {
     }
 
     /// A cookie with this name and the empty value.
-    /// Example: `take_flash` in crates/cookie_examples/src/flash.rt.
     pub fn named(name: &'c str) -> Cookie<'c>
         ensures { result ≡ record { fields = plain name.now []; raw = no_raw_forms } }
     {

@@ -204,7 +204,7 @@ impl<'a, 'c> Display<'a, 'c> {
     }
 
     /// The same, without its attributes.
-    /// Example: `pair_text` in crates/cookie_examples/src/printing.rt.
+    /// Example: `pair_text` in crates/cookie_examples/src/reading.rt.
     pub fn stripped(self) -> Display<'a, 'c>
         ensures { result ≡ record self.entry { is_stripped = true } }
     {
@@ -218,7 +218,7 @@ impl<'a, 'c> Display<'a, 'c> {
     /// The text, in a `String` that reserves its room at once. Only escapes make it grow.
     ///
     /// Fails only if out of memory.
-    /// Example: `pair_text` in crates/cookie_examples/src/printing.rt.
+    /// Example: `pair_text` in crates/cookie_examples/src/reading.rt.
     pub fn to_string<A: Allocator>(&self, alloc: A) -> Result<String<A>, AllocError>
         ensures ok { IfOk result (λ text. string_bytes text
             ≡ cookie_text self.now.is_encoded self.now.is_stripped self.now.fields) }
@@ -254,7 +254,7 @@ impl<'c> Cookie<'c> {
 
 impl<'c> Cookie<'c> {
     /// The cookie as a `Set-Cookie` header has it, with its name and value escaped (RFC 6265 4.1.1, RFC 3986 2.1).
-    /// Example: `pair_text` in crates/cookie_examples/src/printing.rt.
+    /// Example: `pair_text` in crates/cookie_examples/src/reading.rt.
     pub fn encoded(&self) -> Display<'_, 'c>
         ensures { result
             ≡ record { fields = self.now.fields; is_encoded = true; is_stripped = false } }

@@ -10,7 +10,7 @@ use std::fmt;
 /// Prints a date-time in UTC as `Wed, 21 Oct 2015 07:28:00 GMT` (RFC 9110 5.6.7, `IMF-fixdate`).
 ///
 /// The year has the digits that it needs, after a `-` if it is below 0. The fraction of a second is left out.
-/// Example: `texts` in crates/cookie_examples/src/show.rt.
+/// Example: `print` in crates/cookie_examples/src/dates.rt.
 #[derive(Clone, Copy)]
 pub struct DateText(pub DateTime);
 

@@ -14,7 +14,11 @@ use std::alloc::Global;
 ///
 /// A request has neither path nor domain, so pass in the cookie as the server sets it. Fails only if out of memory, and
 /// then leaves the jar as it was.
-/// Example: `remove_as_set` in crates/cookie_examples/src/removal.rt.
+///
+/// ```
+/// let set = CookieBuilder::new("id", "").path("/shop").domain("example.com").build();
+/// remove_as_set(alloc, &mut jar, &set, now)?;
+/// ```
 pub fn remove_as_set(
     alloc: Global,
     jar: &mut CookieJar,

@@ -147,7 +147,7 @@ impl Session {
     }
 
     /// Returns the text at `name`, or `None` if there is none.
-    /// Example: `print_visitor` in crates/cookie_examples/src/show.rt.
+    /// Example: `print` in crates/cookie_examples/src/handler.rt.
     pub fn get(&self, name: &str) -> Option<&str>
         ensures { option_copied result ≡ get self.now.texts name.now }
     {

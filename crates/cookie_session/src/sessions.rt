@@ -106,7 +106,7 @@ impl<'a> Sessions<'a> {
     /// `open` looks at all cookies of the name.
     ///
     /// Fails only if out of memory.
-    /// Example: `print_visitor` in crates/cookie_examples/src/show.rt.
+    /// Example: `print` in crates/cookie_examples/src/handler.rt.
     pub fn open_jar(
         &self,
         alloc: Global,

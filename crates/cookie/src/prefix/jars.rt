@@ -78,7 +78,10 @@ impl CookieJar {
     }
 
     /// Views the jar through a prefix, to look cookies up and to change it. It doesn't allocate.
-    /// Example: `add_for_team` in crates/cookie_examples/src/team.rt.
+    ///
+    /// ```
+    /// jar.prefixed_mut(HostPrefix).add(Cookie::new("id", "7"))?;   // __Host-id=7; Secure; Path=/
+    /// ```
     pub fn prefixed_mut<'a, P: Prefix>(&'a mut self, _prefix: P) -> PrefixedJarMut<'a, P>
         ensures same { Changes result self.entry }
         ensures value { jar_of result ≡ self.old }

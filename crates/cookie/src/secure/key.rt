@@ -122,7 +122,7 @@ impl Key {
     }
 
     /// Makes a key of the next 64 bytes of a generator, by one draw. `rng` must be a cryptographic generator.
-    /// Example: `session` in crates/cookie_examples/src/show.rt.
+    /// Example: `print` in crates/cookie_examples/src/session.rt.
     pub fn generate<R: Rng>(rng: &mut R) -> Key
         ensures { (result, R.stream rng.new) ≡ fill_bytes key_length (R.stream rng.old) }
     {
@@ -133,7 +133,10 @@ impl Key {
 
     /// Makes a key of 64 bytes from one draw from a generator, or returns `None` if the draw failed. `rng` must be a
     /// cryptographic generator.
-    /// Example: `new_key` in crates/cookie_examples/src/runtime.rt.
+    ///
+    /// ```
+    /// let key = Key::try_generate(&mut SysRng).context("no random bytes")?;
+    /// ```
     pub fn try_generate<R: TryRng>(rng: &mut R) -> Option<Key>
         ensures drawn { IfSome result (λ key. R.may_fill rng.old key rng.new) }
         ensures failed { IfNone result R.Error }

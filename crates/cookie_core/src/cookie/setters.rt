@@ -32,7 +32,6 @@ impl<'c> Cookie<'c> {
     }
 
     /// Sets whether scripts are kept from the cookie; `None` unsets that (RFC 6265 4.1.2.6).
-    /// Example: `conform` in crates/cookie_examples/src/team.rt.
     pub fn set_http_only(&mut self, value: Option<bool>)
         ensures fields { self.new.fields ≡ record self.old.fields { http_only = value } }
         ensures raw { self.new.raw ≡ self.old.raw }
@@ -138,7 +137,7 @@ impl<'c> Cookie<'c> {
 
     /// Makes it a cookie that tells a client to drop the cookie with its name, path and domain (RFC 6265 3.1). It has
     /// the empty value, the age zero, and an expiry 365 days before `now`, which is in UTC.
-    /// Example: `removal_text` in crates/cookie_examples/src/printing.rt.
+    /// Example: `removal_text` in crates/cookie_examples/src/reading.rt.
     pub fn make_removal(&mut self, now: DateTime)
         ensures fields { self.new.fields ≡ removal now self.old.fields }
         ensures raw { self.new.raw ≡ record self.old.raw { value = None } }
