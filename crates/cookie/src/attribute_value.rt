@@ -11,7 +11,7 @@ use cookie_core::Cookie;
 pub fn is_attribute_value(text: &str) -> bool
     ensures { IsTrue result ↔ IsAttributeValue text.now }
 {
-    text.as_bytes().iter().all(|byte| is_attribute_byte(*byte))
+    text.as_bytes().iter().all(|&byte| byte >= b' ' && byte != 127 && byte != b';')
 }
 
 /// Returns whether the cookie's path and domain, if it has them, can be values of attributes (`is_attribute_value`). It
@@ -29,13 +29,6 @@ fn is_unset_or_value(text: Option<&str>) -> bool
         Some(text) => is_attribute_value(text),
         None => true,
     }
-}
-
-// No control character, and no `;`.
-fn is_attribute_byte(byte: u8) -> bool
-    ensures { result ≡ is_attribute_byte byte }
-{
-    byte >= b' ' && byte != 127 && byte != b';'
 }
 
 impl CookieJar {

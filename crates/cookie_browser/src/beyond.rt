@@ -54,28 +54,12 @@ fn has_tab(text: &[u8]) -> bool
     text.split(|&byte| byte == b';').any(has_inner_tab)
 }
 
-fn is_nameless_pair(received: &Received<'_>) -> bool
-    ensures { result ≡ spec.is_nameless_pair (received_view received.now) }
-{
-    received.name.is_empty() && has_byte(received.value, b'=')
-}
-
-fn is_dot_domain(received: &Received<'_>) -> bool
-    ensures { result ≡ spec.is_dot_domain (received_view received.now) }
-{
-    received.attributes.domain == b".".as_slice()
-}
-
-fn is_written_host_bound(received: &Received<'_>) -> bool
-    ensures { result ≡ spec.is_written_host_bound (received_view received.now) }
-{
-    received.attributes.path == b"/".as_slice() && received.attributes.domain.is_empty()
-}
-
 fn is_unwritten_host_prefix(received: &Received<'_>) -> bool
     ensures { result ≡ spec.is_unwritten_host_prefix (received_view received.now) }
 {
-    begins_in_any_case(b"__Host-", received.name) && !is_written_host_bound(received)
+    let is_host_bound = received.attributes.path == b"/".as_slice()
+        && received.attributes.domain.is_empty();
+    begins_in_any_case(b"__Host-", received.name) && !is_host_bound
 }
 
 fn is_partition_mark(piece: &[u8]) -> bool
@@ -108,23 +92,20 @@ pub fn refused_beyond(
     if choices.refuses_tabs && has_tab(text) {
         return Some(Beyond::Tab);
     }
-    if choices.refuses_nameless_pairs && is_nameless_pair(received) {
+    if choices.refuses_nameless_pairs
+        && received.name.is_empty()
+        && has_byte(received.value, b'=')
+    {
         return Some(Beyond::NamelessPair);
     }
-    if choices.refuses_dot_domains && is_dot_domain(received) {
+    if choices.refuses_dot_domains && received.attributes.domain == b".".as_slice() {
         return Some(Beyond::DotDomain);
     }
     if choices.asks_written_host_prefix && is_unwritten_host_prefix(received) {
         return Some(Beyond::UnwrittenHostPrefix);
     }
-    if choices.partitions && is_insecure_partition(text, received) {
+    if choices.partitions && is_partitioned(text) && !received.attributes.secure {
         return Some(Beyond::PartitionedWithoutSecure);
     }
     None
-}
-
-fn is_insecure_partition(text: &[u8], received: &Received<'_>) -> bool
-    ensures { result ≡ (spec.is_partitioned text.now && not received.now.attributes.secure) }
-{
-    is_partitioned(text) && !received.attributes.secure
 }

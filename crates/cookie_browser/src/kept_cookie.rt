@@ -56,13 +56,9 @@ pub fn allows(request: &BrowserRequest<'_>, enforcement: Enforcement) -> bool
 {
     !is_site_bound(enforcement)
         || request.is_same_site
-        || (is_lax(enforcement) && request.is_safe && request.is_top_level)
-}
-
-fn is_lax(enforcement: Enforcement) -> bool
-    ensures { result ≡ spec.is_lax enforcement }
-{
-    matches!(enforcement, Enforcement::Lax | Enforcement::Default)
+        || (matches!(enforcement, Enforcement::Lax | Enforcement::Default)
+            && request.is_safe
+            && request.is_top_level)
 }
 
 impl<'s> KeptCookie<'s> {

@@ -40,12 +40,6 @@ fn name_value(piece: &[u8]) -> (&[u8], &[u8])
     }
 }
 
-fn are_too_long(name: &[u8], value: &[u8]) -> bool
-    ensures { result ≡ nat_lt most_bytes (length name.now + length value.now) }
-{
-    name.len() + value.len() > MOST_BYTES
-}
-
 impl<'t> Received<'t> {
     /// Reads the text of one `Set-Cookie` header as a browser does. Returns `ControlCharacter` or `TooLong` if the
     /// browser ignores the whole text (RFC 6265bis, The Set-Cookie Header Field).
@@ -63,7 +57,7 @@ impl<'t> Received<'t> {
         }
         let (first, rest) = cut(text, b';');
         let (name, value) = name_value(first);
-        if are_too_long(name, value) {
+        if name.len() + value.len() > MOST_BYTES {
             return Err(Refusal::TooLong);
         }
         Ok(Received {

@@ -24,12 +24,6 @@ pub(crate) fn is_site_bound(enforcement: Enforcement) -> bool
     !matches!(enforcement, Enforcement::None)
 }
 
-fn is_empty_pair(received: &Received<'_>) -> bool
-    ensures { result ≡ spec.is_empty_pair (received_view received.now) }
-{
-    received.name.is_empty() && received.value.is_empty()
-}
-
 // Whether the domain is a public suffix, and the host is a name.
 pub(crate) fn is_suffix_at(suffixes: &Suffixes, request: &BrowserRequest<'_>, domain: &[u8]) -> bool
     ensures { result ≡ spec.is_suffix_at suffixes.now (request_view request.now) domain.now }
@@ -44,12 +38,6 @@ fn is_suffix_of_others(suffixes: &Suffixes, request: &BrowserRequest<'_>, domain
     !domain.is_empty() && domain != request.host && is_suffix_at(suffixes, request, domain)
 }
 
-fn is_foreign(request: &BrowserRequest<'_>, domain: &[u8]) -> bool
-    ensures { result ≡ spec.is_foreign (request_view request.now) domain.now }
-{
-    !domain.is_empty() && !is_in_domain(request.host, request.is_address, domain)
-}
-
 // What the cookie has of that which prefixes require.
 fn guards_of(received: &Received<'_>, new: &KeptCookie<'_>) -> Guards
     ensures { result ≡ spec.guards_of (received_view received.now) (kept_view new.now) }
@@ -57,15 +45,10 @@ fn guards_of(received: &Received<'_>, new: &KeptCookie<'_>) -> Guards
     Guards {
         is_secure: new.is_secure_only,
         is_http_only: new.is_http_only,
-        is_host_bound: is_host_bound(received, new),
+        is_host_bound: new.is_host_only
+            && received.attributes.has_path
+            && new.path == b"/".as_slice(),
     }
-}
-
-fn is_host_bound(received: &Received<'_>, new: &KeptCookie<'_>) -> bool
-    ensures { result ≡ (new.now.is_host_only && (received.now.attributes.has_path
-        && bytes_eq new.now.path.now (codes "/"))) }
-{
-    new.is_host_only && received.attributes.has_path && new.path == b"/".as_slice()
 }
 
 fn prefix_refusal(prefix: EnforcedPrefix) -> Refusal
@@ -93,7 +76,7 @@ fn refused_by_domain(
     ensures { result ≡ spec.refusal_by_domain suffixes.now (request_view request.now)
         (received_view received.now) }
 {
-    if is_empty_pair(received) {
+    if received.name.is_empty() && received.value.is_empty() {
         return Some(Refusal::Empty);
     }
     if !is_ascii(domain) {
@@ -102,7 +85,7 @@ fn refused_by_domain(
     if is_suffix_of_others(suffixes, request, domain) {
         return Some(Refusal::PublicSuffix);
     }
-    if is_foreign(request, domain) {
+    if !domain.is_empty() && !is_in_domain(request.host, request.is_address, domain) {
         return Some(Refusal::ForeignDomain);
     }
     None
@@ -133,12 +116,6 @@ fn overlays(request: &BrowserRequest<'_>, store: &[KeptCookie<'_>], new: &KeptCo
     !new.is_secure_only && !request.is_secure && any_overlaid(request, store, new)
 }
 
-fn crosses(request: &BrowserRequest<'_>, new: &KeptCookie<'_>) -> bool
-    ensures { result ≡ spec.crosses (request_view request.now) (kept_view new.now) }
-{
-    is_site_bound(new.same_site) && !request.is_same_site && !request.is_top_level
-}
-
 // The steps on `Secure` and `SameSite`.
 #[tactic(auto, unfolding(crate::specs::Storage::refusal_by_connection))]
 fn refused_by_connection(
@@ -150,31 +127,19 @@ fn refused_by_connection(
         → overlays ≡ spec.overlays (request_view request.now) store (kept_view new.now)
         → result ≡ spec.refusal_by_connection (request_view request.now) store (kept_view new.now) }
 {
-    if is_insecure(request, new) {
+    if new.is_secure_only && !request.is_secure {
         return Some(Refusal::InsecureConnection);
     }
     if overlays {
         return Some(Refusal::OverlaysSecure);
     }
-    if crosses(request, new) {
+    if is_site_bound(new.same_site) && !request.is_same_site && !request.is_top_level {
         return Some(Refusal::CrossSite);
     }
-    if is_bare_none(new) {
+    if !is_site_bound(new.same_site) && !new.is_secure_only {
         return Some(Refusal::NoneWithoutSecure);
     }
     None
-}
-
-fn is_insecure(request: &BrowserRequest<'_>, new: &KeptCookie<'_>) -> bool
-    ensures { result ≡ (new.now.is_secure_only && not request.now.is_secure) }
-{
-    new.is_secure_only && !request.is_secure
-}
-
-fn is_bare_none(new: &KeptCookie<'_>) -> bool
-    ensures { result ≡ (not (spec.is_site_bound new.now.same_site) && not new.now.is_secure_only) }
-{
-    !is_site_bound(new.same_site) && !new.is_secure_only
 }
 
 // The steps on prefixes.
@@ -185,17 +150,10 @@ fn refused_by_prefix(received: &Received<'_>, new: &KeptCookie<'_>) -> Option<Re
     if let Some(prefix) = EnforcedPrefix::unmet(received.name, guards_of(received, new)) {
         return Some(prefix_refusal(prefix));
     }
-    if is_nameless_prefix(received) {
+    if received.name.is_empty() && EnforcedPrefix::any_begins(received.value) {
         return Some(Refusal::NamelessPrefix);
     }
     None
-}
-
-fn is_nameless_prefix(received: &Received<'_>) -> bool
-    ensures { result ≡ (bytes_eq received.now.name.now []
-        && has_any_prefix received.now.value.now) }
-{
-    received.name.is_empty() && EnforcedPrefix::any_begins(received.value)
 }
 
 /// Returns the first step that refuses a received cookie, or `None` if none does (RFC 6265bis, Storage Model). An

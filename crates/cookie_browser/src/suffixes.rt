@@ -289,14 +289,9 @@ fn is_address(domain: &[u8]) -> bool
 fn is_dotted_number(domain: &[u8]) -> bool
     ensures { result ≡ list_all is_number_byte domain.now }
 {
-    domain.iter().all(|&byte| is_number_byte(byte))
-}
-
-// Whether the byte is a digit or a dot.
-fn is_number_byte(byte: u8) -> bool
-    ensures { result ≡ is_number_byte byte }
-{
-    byte.is_ascii_digit() || byte == b'.'
+    domain
+        .iter()
+        .all(|&byte| byte.is_ascii_digit() || byte == b'.')
 }
 
 fn is_one_label(domain: &[u8]) -> bool

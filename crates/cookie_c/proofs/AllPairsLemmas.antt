@@ -1,5 +1,5 @@
 -- All pairs of a header, taken in one after the other.
-use Rattle.std.proofs.Common.{◌≡◌, ℕ, ◌+◌, ◌<◌, ◌≤◌, List, [], ◌∷◌, ◌++◌, length, Option, Some, None, Err, true, IsUtf8, inl, inr, refl, sym, ap, subst, ◌∙◌, arith, append_assoc, length-append}
+use Rattle.std.proofs.Common.{◌≡◌, ℕ, ◌+◌, ◌<◌, ◌≤◌, List, [], ◌∷◌, ◌++◌, length, Option, Some, None, Err, true, IsUtf8, inl, inr, refl, sym, ap, subst, ◌∙◌, arith}
 use Rattle.std.proofs.lemmas.Bool.{cases_Bool, cases_lt, cond-true, cond-false}
 use Rattle.std.proofs.lemmas.List.{append-nil}
 use Rattle.std.proofs.lemmas.Option.{none-some, same_Some}
@@ -44,17 +44,6 @@ abbrev pub ReadsSoFar : List ℕ → ℕ → List Pair → List ℕ → Type 0
 ReadsSoFar header from taken text =
     (pairs : List Pair) (rest : List ℕ) → ArePairsFrom header from (length text) pairs rest
     → ArePairsFrom header 0 0 (taken ++ pairs) (text ++ rest)
-
-pub reads_more : (header : List ℕ) (from next : ℕ) (old new : DecodedPairs) → ReadsSoFar header from old.pairs.items old.text.items
-    → TakesNext header from old new (Some next) → ReadsSoFar header next new.pairs.items new.text.items
-reads_more header from next old new so_far (piece, is, at, (pair, own, here, added, grown)) pairs rest later =
-    let long : length new.text.items ≡ length old.text.items + length own = ap length grown ∙ length-append old.text.items own in
-    let then : ArePairsFrom header (rest_after piece) (length old.text.items + length own) pairs rest =
-    subst (λ n. ArePairsFrom header n (length old.text.items + length own) pairs rest) at
-    (subst (λ n. ArePairsFrom header next n pairs rest) long later) in
-    let whole = so_far (pair ∷ pairs) (own ++ rest) (piece, is, (own, rest, refl, here, then)) in
-    subst (λ ps. ArePairsFrom header 0 0 ps (new.text.items ++ rest)) (sym (ap (λ ps. ps ++ pairs) added ∙ append_assoc old.pairs.items (pair ∷ []) pairs))
-    (subst (λ t. ArePairsFrom header 0 0 (old.pairs.items ++ pair ∷ pairs) t) (sym (ap (λ t. t ++ rest) grown ∙ append_assoc old.text.items own rest)) whole)
 
 pub reads_all : (header : List ℕ) (from : ℕ) (taken : List Pair) (text : List ℕ) → ReadsSoFar header from taken text → next_piece header from ≡ None
     → ArePairsFrom header 0 0 taken text

@@ -59,22 +59,10 @@ fn write_text<W: fmt::Write>(f: &mut fmt::Formatter<W>, text: &str, is_encoded: 
 }
 
 impl<'c> Cookie<'c> {
-    fn is_http_only(&self) -> bool
-        ensures { result ≡ is_true self.now.fields.http_only }
-    {
-        matches!(self.http_only(), Some(true))
-    }
-
     fn is_partitioned(&self) -> bool
         ensures { result ≡ is_true self.now.fields.partitioned }
     {
         matches!(self.partitioned(), Some(true))
-    }
-
-    fn is_same_site_none(&self) -> bool
-        ensures { result ≡ is_same_site_none self.now.fields.same_site }
-    {
-        matches!(self.same_site(), Some(SameSite::None))
     }
 
     /// Whether `Secure` is printed (RFC 6265bis 4.1.2). It is printed if it is set to true, if the cookie is
@@ -85,7 +73,7 @@ impl<'c> Cookie<'c> {
         match self.secure() {
             Some(true) => true,
             Some(false) => self.is_partitioned(),
-            None => self.is_partitioned() || self.is_same_site_none(),
+            None => self.is_partitioned() || matches!(self.same_site(), Some(SameSite::None)),
         }
     }
 
@@ -101,7 +89,7 @@ fn write_scope<W: fmt::Write>(f: &mut fmt::Formatter<W>, cookie: &Cookie<'_>) ->
     ensures { DisplaysOnOk W.write_str_gives f.old result
         (Some (scope_text cookie.now.fields)) f.new }
 {
-    write_flag(f, "; HttpOnly", cookie.is_http_only())?;
+    write_flag(f, "; HttpOnly", matches!(cookie.http_only(), Some(true)))?;
     write_labelled(f, "; SameSite=", cookie.same_site())?;
     write_flag(f, "; Partitioned", cookie.is_partitioned())?;
     write_flag(f, "; Secure", cookie.prints_secure())

@@ -1,7 +1,7 @@
 //! When two cookies are equal.
 ghost use Rattle.std.specs.Prelude.{◌≡◌, option_map};
 ghost use Rattle.std.specs.Option.{option_eq};
-ghost use Rattle.cookie_core.specs.Same.{same_pair, same_flags, same_place, same_lifetime, same_ignoring_case, same, same_cookie, same_cookie-laws, IsEquality};
+ghost use Rattle.cookie_core.specs.Same.{same_ignoring_case, same, same_cookie, same_cookie-laws, IsEquality};
 
 use crate::cookie::Cookie;
 
@@ -17,38 +17,15 @@ impl<'c> PartialEq for Cookie<'c> {
         // Which is reflexive, symmetric and transitive.
         ensures equality { IsEquality same }
     {
-        self.is_same_pair(other)
-            && self.has_same_flags(other)
-            && self.is_same_place(other)
-            && self.has_same_lifetime(other)
-    }
-}
-
-impl<'c> Cookie<'c> {
-    fn is_same_pair(&self, other: &Cookie<'c>) -> bool
-        ensures { result ≡ same_pair self.now.fields other.now.fields }
-    {
-        self.name() == other.name() && self.value() == other.value()
-    }
-
-    fn has_same_flags(&self, other: &Cookie<'c>) -> bool
-        ensures { result ≡ same_flags self.now.fields other.now.fields }
-    {
-        self.http_only() == other.http_only()
+        self.name() == other.name()
+            && self.value() == other.value()
+            && self.http_only() == other.http_only()
             && self.secure() == other.secure()
             && self.partitioned() == other.partitioned()
-    }
-
-    fn is_same_place(&self, other: &Cookie<'c>) -> bool
-        ensures { result ≡ same_place self.now.fields other.now.fields }
-    {
-        are_same(self.path(), other.path()) && are_same(self.domain(), other.domain())
-    }
-
-    fn has_same_lifetime(&self, other: &Cookie<'c>) -> bool
-        ensures { result ≡ same_lifetime self.now.fields other.now.fields }
-    {
-        self.max_age() == other.max_age() && self.expires() == other.expires()
+            && are_same(self.path(), other.path())
+            && are_same(self.domain(), other.domain())
+            && self.max_age() == other.max_age()
+            && self.expires() == other.expires()
     }
 }
 

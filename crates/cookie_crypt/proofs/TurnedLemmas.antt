@@ -18,7 +18,6 @@ use Rattle.cookie_crypt.proofs.BytesLemmas.{bytes_shifted, bytes_substituted, xo
 use Rattle.cookie_crypt.proofs.LaneLemmas.{by_place, lanes_are_bytes, on_places}
 use Rattle.cookie_crypt.proofs.MixingLemmas.{mixed, mixed_at, on_pairs}
 use Rattle.cookie_crypt.proofs.ProductLemmas.{xor_swap}
-use Rattle.cookie_crypt.proofs.SboxLemmas.{on_bytes}
 
 -- ---- a byte
 
@@ -31,21 +30,11 @@ pub turned_back-xor : (x y : ℕ) → x < 256 → y < 256 → turned_back (bit_x
 unfolding turned_back
 turned_back-xor = on_pairs (λ x y. turned_back (bit_xor x y)) (λ x y. bit_xor (turned_back x) (turned_back y)) refl
 
-pub turned_back-lt : (x : ℕ) → x < 256 → turned_back x < 256
-unfolding turned_back
-turned_back-lt x h =
-    let none : turned_back x / 256 ≡ 0 = on_bytes (λ b. turned_back b / 256) (λ b. 0) refl x h in
-    omega arith
-
 -- the constant added twice is gone
 pub xor_twice : (a k : ℕ) → bit_xor (bit_xor a k) k ≡ a
 xor_twice a k = xor_assoc a k k ∙ ap (bit_xor a) (xor_self k) ∙ xor_zero_r a
 
 -- ---- a column
-
--- x times a byte of S without its constant
-twice_of : ℕ → ℕ
-twice_of a = byte_times_x (bit_xor a 0x63)
 
 own_and_next : (a b : ℕ) → a < 256 → b < 256
     → bit_xor (bit_xor (byte_times_x (bit_xor a 0x63)) (bit_xor b 0x63)) (byte_times_x (bit_xor b 0x63)) ≡ bit_xor (bit_xor (byte_times_x (bit_xor a b)) b) 0x63

@@ -5,14 +5,14 @@ ghost use Rattle.cookie_crypt.specs.Gcm.{number_of, bytes_of, counter_block, blo
 use std::simd::prelude::*;
 
 /// The number that a block's bytes write, the first byte highest.
-pub fn number_of(block: [u8; 16]) -> u128
+pub(crate) fn number_of(block: [u8; 16]) -> u128
     ensures { result ≡ number_of block }
 {
     u128::from_be_bytes(block)
 }
 
 /// The block that a number is written as.
-pub fn bytes_of(number: u128) -> [u8; 16]
+pub(crate) fn bytes_of(number: u128) -> [u8; 16]
     ensures { result ≡ bytes_of number }
 {
     number.to_be_bytes()
@@ -20,7 +20,7 @@ pub fn bytes_of(number: u128) -> [u8; 16]
 
 /// The same block as lanes, made of two words at once and not of its bytes one by one.
 #[inline(always)]
-pub fn lanes_of(number: u128) -> u8x16
+pub(crate) fn lanes_of(number: u128) -> u8x16
     ensures { result ≡ bytes_of number }
 {
     let low = (number % (1 << 64)) as u64;
@@ -29,7 +29,7 @@ pub fn lanes_of(number: u128) -> u8x16
 }
 
 /// The nonce and a counter.
-pub fn counter_block(nonce: &[u8; 12], counter: u32) -> [u8; 16]
+pub(crate) fn counter_block(nonce: &[u8; 12], counter: u32) -> [u8; 16]
     ensures { result ≡ counter_block nonce.now counter }
 {
     let [a, b, c, d] = counter.to_be_bytes();
@@ -40,7 +40,7 @@ pub fn counter_block(nonce: &[u8; 12], counter: u32) -> [u8; 16]
 }
 
 /// Block `i` of the data, padded with zeros.
-pub fn block_at(bytes: &[u8], i: usize) -> u128
+pub(crate) fn block_at(bytes: &[u8], i: usize) -> u128
     requires { 16 * i < length bytes.now }
     ensures { result ≡ block_at bytes.now i }
 {
@@ -60,7 +60,7 @@ pub fn block_at(bytes: &[u8], i: usize) -> u128
 }
 
 /// Adds a block to the bytes from `start` on, or its first bytes if fewer are left.
-pub fn add_block(bytes: &mut [u8], start: usize, block: &[u8; 16])
+pub(crate) fn add_block(bytes: &mut [u8], start: usize, block: &[u8; 16])
     requires { start < length bytes.old }
     ensures length { length bytes.new ≡ length bytes.old }
     ensures added { (j : ℕ) → j < 16 → start + j < length bytes.old

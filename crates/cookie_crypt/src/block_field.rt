@@ -5,14 +5,14 @@ ghost use Rattle.cookie_crypt.specs.BlockField.{times_x, product_below, times_po
 const REDUCTION: u128 = 0xe1 << 120;
 
 /// `x` times a block.
-pub fn times_x(block: u128) -> u128
+pub(crate) fn times_x(block: u128) -> u128
     ensures { result ≡ times_x block }
 {
     (block >> 1) ^ ((block & 1) * REDUCTION)
 }
 
 /// The sum over the coefficients of `a` below `count` of `x` to their number times `b`. What is done depends on `a`.
-pub fn product_below(a: u128, b: u128, count: u32) -> u128
+pub(crate) fn product_below(a: u128, b: u128, count: u32) -> u128
     requires { count ≤ 128 }
     ensures { result ≡ product_below count a b }
 {
@@ -28,7 +28,7 @@ pub fn product_below(a: u128, b: u128, count: u32) -> u128
 }
 
 /// `x` to the fourth times a block.
-pub fn times_x_to_the_fourth(block: u128) -> u128
+pub(crate) fn times_x_to_the_fourth(block: u128) -> u128
     ensures { result ≡ times_power 4 block }
 {
     times_x(times_x(times_x(times_x(block))))

@@ -9,7 +9,7 @@ use crate::multiples::Multiples;
 use crate::steps::Steps;
 
 /// The hash after the padded blocks of the data, from what it was before them.
-pub fn hash_from(hash: u128, multiples: &Multiples, bytes: &[u8], steps: &mut Steps) -> u128
+pub(crate) fn hash_from(hash: u128, multiples: &Multiples, bytes: &[u8], steps: &mut Steps) -> u128
     requires room { steps.old.products + block_count (length bytes.now) < 2 ^ 64 }
     requires room_for_steps { steps.old.table_steps + 32 * block_count (length bytes.now) < 2 ^ 64 }
     ensures made { result ≡ ghash_from multiples.now hash (blocks bytes.now) }

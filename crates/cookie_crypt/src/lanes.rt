@@ -62,7 +62,7 @@ fn look_up(table: [u8; 16], places: u8x16) -> u8x16
 }
 
 #[inline(always)]
-pub fn sum(a: u8x16, b: u8x16) -> u8x16
+pub(crate) fn sum(a: u8x16, b: u8x16) -> u8x16
     ensures { (f g : ℕ → ℕ) (v : List ℕ) → a ≡ map f v → b ≡ map g v
         → result ≡ map (λ x. bit_xor (f x) (g x)) v }
 {
@@ -96,7 +96,7 @@ fn look_up_halves(firsts: [u8; 16], seconds: [u8; 16], first: u8x16, second: u8x
 
 /// The bytes turned: written as elements of the field over the smaller one.
 #[inline(always)]
-pub fn turn(bytes: u8x16) -> u8x16
+pub(crate) fn turn(bytes: u8x16) -> u8x16
     ensures { map turned_back result ≡ bytes }
 {
     sum(
@@ -122,7 +122,7 @@ fn halves(bytes: u8x16) -> (u8x16, u8x16)
 
 /// S of each turned byte, without its constant and turned, and `x` times that.
 #[inline(always)]
-pub fn substitute_turned(bytes: u8x16) -> (u8x16, u8x16)
+pub(crate) fn substitute_turned(bytes: u8x16) -> (u8x16, u8x16)
     ensures once { map turned_back result.0 ≡ map linear_part (map turned_back bytes) }
     ensures twice { map turned_back result.1
         ≡ map (λ b. byte_times_x (linear_part b)) (map turned_back bytes) }
@@ -136,7 +136,7 @@ pub fn substitute_turned(bytes: u8x16) -> (u8x16, u8x16)
 
 /// S of each turned byte, without its constant.
 #[inline(always)]
-pub fn substitute_back(bytes: u8x16) -> u8x16
+pub(crate) fn substitute_back(bytes: u8x16) -> u8x16
     ensures { result ≡ map linear_part (map turned_back bytes) }
 {
     let (first, second) = halves(bytes);
@@ -145,7 +145,7 @@ pub fn substitute_back(bytes: u8x16) -> u8x16
 
 /// S of each byte.
 #[inline(always)]
-pub fn substitute(bytes: u8x16) -> u8x16
+pub(crate) fn substitute(bytes: u8x16) -> u8x16
     ensures { result ≡ map s_box bytes }
 {
     substitute_back(turn(bytes)) ^ u8x16::splat(0x63)
@@ -153,7 +153,7 @@ pub fn substitute(bytes: u8x16) -> u8x16
 
 /// The byte one row further down in each column, and in the last row the first.
 #[inline(always)]
-pub fn next_in_column(a: u8x16) -> u8x16
+pub(crate) fn next_in_column(a: u8x16) -> u8x16
     ensures { (f : ℕ → ℕ) → a ≡ map f (range_with_len 0 16)
         → result ≡ map (λ i. f (4 * (i / 4) + (i + 1) % 4)) (range_with_len 0 16) }
 {
@@ -162,7 +162,7 @@ pub fn next_in_column(a: u8x16) -> u8x16
 
 /// The byte one row further up, and in the first row the last.
 #[inline(always)]
-pub fn last_in_column(a: u8x16) -> u8x16
+pub(crate) fn last_in_column(a: u8x16) -> u8x16
     ensures { (f : ℕ → ℕ) → a ≡ map f (range_with_len 0 16)
         → result ≡ map (λ i. f (4 * (i / 4) + (i + 3) % 4)) (range_with_len 0 16) }
 {
@@ -171,7 +171,7 @@ pub fn last_in_column(a: u8x16) -> u8x16
 
 /// The sum of two blocks.
 #[inline(always)]
-pub fn add(a: u8x16, b: u8x16) -> u8x16
+pub(crate) fn add(a: u8x16, b: u8x16) -> u8x16
     ensures lanes { IsLanes result }
     ensures each { result ≡ zip2 bit_xor a b }
     ensures value { number_of result ≡ bit_xor (number_of a) (number_of b) }
@@ -181,7 +181,7 @@ pub fn add(a: u8x16, b: u8x16) -> u8x16
 
 /// The bytes one lane on, with the last byte of `before` as the first.
 #[inline(always)]
-pub fn move_on(before: u8x16, bytes: u8x16) -> u8x16
+pub(crate) fn move_on(before: u8x16, bytes: u8x16) -> u8x16
     ensures lanes { IsLanes result }
     ensures value { result ≡ take 16 (slice_index before 15 ∷ bytes) }
 {
@@ -195,7 +195,7 @@ pub fn move_on(before: u8x16, bytes: u8x16) -> u8x16
 
 /// The sum of what the upper and the lower half of each byte look up, each in its table.
 #[inline(always)]
-pub fn look_up_both(upper: [u8; 16], lower: [u8; 16], bytes: u8x16) -> u8x16
+pub(crate) fn look_up_both(upper: [u8; 16], lower: [u8; 16], bytes: u8x16) -> u8x16
     ensures lanes { IsLanes result }
     ensures value { result ≡ looked_up upper lower bytes }
 {

@@ -70,7 +70,7 @@ fn product(upper: &[[u8; 16]; 16], lower: &[[u8; 16]; 16], block: u128) -> u128
 
 /// The multiples of a block that a product looks up. Contracts see the block.
 #[derive(Drop)]
-pub struct Multiples {
+pub(crate) struct Multiples {
     block: u128,
     upper: [[u8; 16]; 16],
     lower: [[u8; 16]; 16],
@@ -87,7 +87,7 @@ impl Model for Multiples {
 
 impl Multiples {
     /// The multiples of `block`.
-    pub fn new(block: u128) -> Multiples
+    pub(crate) fn new(block: u128) -> Multiples
         ensures { result ≡ block }
     {
         Multiples {
@@ -109,7 +109,7 @@ impl Multiples {
     }
 
     /// The product of `block` and the block of these multiples.
-    pub fn product(&self, block: u128) -> u128
+    pub(crate) fn product(&self, block: u128) -> u128
         ensures { result ≡ field_product block self.now }
     {
         product(&self.upper, &self.lower, block)

@@ -19,14 +19,14 @@ pub const LONGEST_TEXT: usize = (1 << 36) - 32;
 pub const LONGEST_DATA: usize = (1 << 61) - 1;
 
 /// Whether the lengths of data and text are within the limits.
-pub fn is_within(aad: &[u8], text: &[u8]) -> bool
+pub(crate) fn is_within(aad: &[u8], text: &[u8]) -> bool
     ensures { IsTrue result ↔ IsWithin (length aad.now) (length text.now) }
 {
     text.len() <= LONGEST_TEXT && aad.len() <= LONGEST_DATA
 }
 
 /// The multiples of the hash subkey H, which is one encrypted block (SP 800-38D 7.1, step 1).
-pub fn subkey_multiples(cipher: &Aes256, steps: &mut Steps) -> Multiples
+pub(crate) fn subkey_multiples(cipher: &Aes256, steps: &mut Steps) -> Multiples
     requires { steps.old.blocks + 1 < 2 ^ 64 }
     ensures made { result ≡ hash_subkey cipher.now }
     ensures powers_first { HasPowersFirst (hash_subkey cipher.now) }
@@ -78,7 +78,7 @@ fn tag_of(
 }
 
 /// Encrypts the text in place, and returns its tag (SP 800-38D 7.1, from step 2 on).
-pub fn seal(
+pub(crate) fn seal(
     cipher: &Aes256,
     multiples: &Multiples,
     nonce: &[u8; 12],
@@ -102,7 +102,7 @@ pub fn seal(
 
 /// Decrypts the text in place and returns true if text and tag are a sealing (SP 800-38D 7.2). Else it returns false and
 /// leaves the text as it was.
-pub fn open(
+pub(crate) fn open(
     cipher: &Aes256,
     multiples: &Multiples,
     nonce: &[u8; 12],

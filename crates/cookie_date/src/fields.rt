@@ -8,7 +8,7 @@ use jiff::civil::DateTime;
 
 /// What a date text shows, before the year rule.
 #[derive(Clone, Copy)]
-pub struct Fields {
+pub(crate) struct Fields {
     pub year: i16,
     pub month: u8,
     pub day: u8,
@@ -18,7 +18,7 @@ pub struct Fields {
 }
 
 // RFC 6265 5.1.1, steps 3 and 4.
-pub fn full_year(year: i16) -> i16
+pub(crate) fn full_year(year: i16) -> i16
     requires { IsYear year }
     ensures value { result ≡ full_year year }
     ensures bound { IsYear result }
@@ -31,7 +31,7 @@ pub fn full_year(year: i16) -> i16
 }
 
 /// The date-time of the fields, if the calendar and a clock have it.
-pub fn date_of_fields(fields: Fields) -> Option<DateTime>
+pub(crate) fn date_of_fields(fields: Fields) -> Option<DateTime>
     requires year { IsYear fields.year }
     requires two_digits { (fields.month < 100) × (fields.day < 100) × (fields.hour < 100)
         × (fields.minute < 100) × (fields.second < 100) }

@@ -8,7 +8,7 @@ use crate::tokens::{cut_token, day_in, month_in, time_in, year_in};
 
 /// What was found in the tokens of a date so far: the four flags of RFC 6265bis 5.1.1, with their numbers.
 #[derive(Clone, Copy)]
-pub struct Found {
+pub(crate) struct Found {
     pub time: Option<(u8, u8, u8)>,
     pub day: Option<u8>,
     pub month: Option<u8>,
@@ -102,7 +102,7 @@ impl Found {
     }
 
     // The fields, if all four are found.
-    pub fn fields(self) -> Option<Fields>
+    pub(crate) fn fields(self) -> Option<Fields>
         requires { AreSmall self }
         ensures value { result ≡ Tokens.found_fields self }
         ensures small { IfSome result IsShort }
@@ -123,7 +123,7 @@ impl Found {
 }
 
 // What is found in all tokens of the text.
-pub fn found_in(text: &[u8]) -> Found
+pub(crate) fn found_in(text: &[u8]) -> Found
     ensures value { result ≡ Tokens.found_in text.now }
     ensures small { AreSmall result }
 {

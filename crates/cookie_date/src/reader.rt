@@ -5,7 +5,7 @@ ghost use Rattle.cookie_date.specs.Reader as Reader;
 
 use crate::text::{month_name, weekday_name};
 
-pub fn read_tag<'a>(text: &'a [u8], tag: &[u8]) -> Option<&'a [u8]>
+pub(crate) fn read_tag<'a>(text: &'a [u8], tag: &[u8]) -> Option<&'a [u8]>
     ensures { option_copied result ≡ Reader.read_tag tag.now text.now }
 {
     text.strip_prefix(tag)
@@ -23,7 +23,7 @@ fn read_digit(text: &[u8]) -> Option<(u8, &[u8])>
 }
 
 #[tactic(auto, unfolding(crate::specs::Reader::read_two_digits))]
-pub fn read_two_digits(text: &[u8]) -> Option<(u8, &[u8])>
+pub(crate) fn read_two_digits(text: &[u8]) -> Option<(u8, &[u8])>
     ensures { Reader.front result ≡ Reader.read_two_digits text.now }
 {
     let (tens, rest) = read_digit(text)?;
@@ -33,7 +33,7 @@ pub fn read_two_digits(text: &[u8]) -> Option<(u8, &[u8])>
 
 // Two digits, or a blank and one digit.
 #[tactic(auto, unfolding(crate::specs::Reader::read_padded_day))]
-pub fn read_padded_day(text: &[u8]) -> Option<(u8, &[u8])>
+pub(crate) fn read_padded_day(text: &[u8]) -> Option<(u8, &[u8])>
     ensures { Reader.front result ≡ Reader.read_padded_day text.now }
 {
     match text.first() {
@@ -44,7 +44,7 @@ pub fn read_padded_day(text: &[u8]) -> Option<(u8, &[u8])>
 
 // `08:49:37`
 #[tactic(auto, unfolding(crate::specs::Reader::read_clock))]
-pub fn read_clock(text: &[u8]) -> Option<((u8, u8, u8), &[u8])>
+pub(crate) fn read_clock(text: &[u8]) -> Option<((u8, u8, u8), &[u8])>
     ensures { Reader.front result ≡ Reader.read_clock text.now }
 {
     let (hour, rest) = read_two_digits(text)?;
@@ -55,7 +55,7 @@ pub fn read_clock(text: &[u8]) -> Option<((u8, u8, u8), &[u8])>
 
 // ` 08:49:37 GMT`, with nothing after it.
 #[tactic(auto, unfolding(crate::specs::Reader::read_gmt))]
-pub fn read_gmt(text: &[u8]) -> Option<(u8, u8, u8)>
+pub(crate) fn read_gmt(text: &[u8]) -> Option<(u8, u8, u8)>
     ensures { result ≡ Reader.read_gmt text.now }
 {
     let (clock, zone) = read_clock(read_tag(text, b" ")?)?;
@@ -67,7 +67,7 @@ pub fn read_gmt(text: &[u8]) -> Option<(u8, u8, u8)>
 }
 
 // At most this many more digits of a number.
-pub fn read_digits(most: u8, number: u16, text: &[u8]) -> (u16, &[u8])
+pub(crate) fn read_digits(most: u8, number: u16, text: &[u8]) -> (u16, &[u8])
     requires { number < Reader.room most }
     ensures value { (result.0, result.1.now) ≡ Reader.read_digits most number text.now }
     ensures bound { result.0 < 10000 }
@@ -109,7 +109,7 @@ fn read_sign(text: &[u8]) -> (bool, &[u8])
 
 // A sign, if there is one, and one to four digits.
 #[tactic(auto, unfolding(crate::specs::Reader::read_year))]
-pub fn read_year(text: &[u8]) -> Option<(i16, &[u8])>
+pub(crate) fn read_year(text: &[u8]) -> Option<(i16, &[u8])>
     ensures { Reader.front result ≡ Reader.read_year text.now }
 {
     let (negative, digits) = read_sign(text);
@@ -119,7 +119,7 @@ pub fn read_year(text: &[u8]) -> Option<(i16, &[u8])>
 }
 
 // The short name of a weekday, as its number from 0 for Monday.
-pub fn read_weekday(text: &[u8]) -> Option<(u8, &[u8])>
+pub(crate) fn read_weekday(text: &[u8]) -> Option<(u8, &[u8])>
     ensures value { Reader.front result ≡ Reader.read_name weekday_text 7 0 text.now }
     ensures bound { IfSome result (λ r. r.0 < 7) }
 {
@@ -132,7 +132,7 @@ pub fn read_weekday(text: &[u8]) -> Option<(u8, &[u8])>
 }
 
 // What the long name of a weekday has after the short one.
-pub fn weekday_rest(weekday: u8) -> &'static str
+pub(crate) fn weekday_rest(weekday: u8) -> &'static str
     requires { weekday < 7 }
     ensures { result.now ≡ Reader.weekday_rest weekday }
 {
@@ -146,7 +146,7 @@ pub fn weekday_rest(weekday: u8) -> &'static str
 }
 
 // The short name of a month, as its number from 1 for January.
-pub fn read_month(text: &[u8]) -> Option<(u8, &[u8])>
+pub(crate) fn read_month(text: &[u8]) -> Option<(u8, &[u8])>
     ensures { Reader.front result ≡ Reader.read_name month_text 12 1 text.now }
 {
     for month in 1..13 {
@@ -159,7 +159,7 @@ pub fn read_month(text: &[u8]) -> Option<(u8, &[u8])>
 
 // `06 Nov `, with this mark for the blanks.
 #[tactic(auto, unfolding(crate::specs::Reader::read_day_month))]
-pub fn read_day_month<'a>(mark: &[u8], text: &'a [u8]) -> Option<((u8, u8), &'a [u8])>
+pub(crate) fn read_day_month<'a>(mark: &[u8], text: &'a [u8]) -> Option<((u8, u8), &'a [u8])>
     ensures { Reader.front result ≡ Reader.read_day_month mark.now text.now }
 {
     let (day, rest) = read_two_digits(text)?;

@@ -15,7 +15,7 @@ use std::fmt;
 pub struct DateText(pub DateTime);
 
 /// The short name of a weekday, from 0 for Monday.
-pub fn weekday_name(weekday: u8) -> &'static str
+pub(crate) fn weekday_name(weekday: u8) -> &'static str
     requires { weekday < 7 }
     ensures { result.now ≡ weekday_text weekday }
 {
@@ -31,7 +31,7 @@ pub fn weekday_name(weekday: u8) -> &'static str
 }
 
 /// The short name of a month, from 1 for January.
-pub fn month_name(month: u8) -> &'static str
+pub(crate) fn month_name(month: u8) -> &'static str
     requires { IsInRange 1 12 month }
     ensures { result.now ≡ month_text month }
 {

@@ -8,18 +8,14 @@ ghost use Rattle.cookie_date.specs.Found.{cut_token};
 use crate::reader::{read_digits, read_tag};
 use crate::text::month_name;
 
-fn is_delimiter(byte: u8) -> bool
-    ensures { result ≡ Tokens.is_delimiter byte }
-{
-    matches!(byte, 9 | 32..=47 | 59..=64 | 91..=96 | 123..=126)
-}
-
 // What is before the first delimiter, and what is after it, if there is one.
-pub fn cut_token(text: &[u8]) -> (&[u8], Option<&[u8]>)
+pub(crate) fn cut_token(text: &[u8]) -> (&[u8], Option<&[u8]>)
     ensures before { result.0.now ≡ (cut_token text.now).0 }
     ensures after { option_copied result.1 ≡ (cut_token text.now).1 }
 {
-    match text.iter().position(|&byte| is_delimiter(byte)) {
+    match text.iter().position(
+        |&byte| matches!(byte, 9 | 32..=47 | 59..=64 | 91..=96 | 123..=126),
+    ) {
         Some(at) => (&text[..at], Some(&text[at + 1..])),
         None => (text, None),
     }
@@ -53,7 +49,7 @@ fn read_pair(text: &[u8]) -> Option<(u8, &[u8])>
 }
 
 #[tactic(auto, unfolding(crate::specs::CookieDate::time_in))]
-pub fn time_in(token: &[u8]) -> Option<(u8, u8, u8)>
+pub(crate) fn time_in(token: &[u8]) -> Option<(u8, u8, u8)>
     ensures value { result ≡ Tokens.time_in token.now }
     ensures bound { IfSome result (λ t. (t.0 < 100) × (t.1 < 100) × (t.2 < 100)) }
 {
@@ -64,7 +60,7 @@ pub fn time_in(token: &[u8]) -> Option<(u8, u8, u8)>
 }
 
 #[tactic(auto, unfolding(crate::specs::CookieDate::day_in))]
-pub fn day_in(token: &[u8]) -> Option<u8>
+pub(crate) fn day_in(token: &[u8]) -> Option<u8>
     ensures value { result ≡ Tokens.day_in token.now }
     ensures bound { IfSome result (λ day. day < 100) }
 {
@@ -73,7 +69,7 @@ pub fn day_in(token: &[u8]) -> Option<u8>
 }
 
 #[tactic(auto, unfolding(crate::specs::CookieDate::year_in))]
-pub fn year_in(token: &[u8]) -> Option<u16>
+pub(crate) fn year_in(token: &[u8]) -> Option<u16>
     ensures value { result ≡ Tokens.year_in token.now }
     ensures bound { IfSome result (λ year. year < 10000) }
 {
@@ -92,7 +88,7 @@ fn is_month(month: u8, token: &[u8]) -> bool
     }
 }
 
-pub fn month_in(token: &[u8]) -> Option<u8>
+pub(crate) fn month_in(token: &[u8]) -> Option<u8>
     ensures value { result ≡ Tokens.month_in token.now }
     ensures bound { IfSome result (λ month. month < 100) }
 {

@@ -83,29 +83,13 @@ fn is_field(line: &[u8]) -> bool
     begins_in_any_case(b"set-cookie:", unmarked(line))
 }
 
-#[tactic(auto, unfolding(crate::specs::Paste::is_url))]
-fn is_url(line: &[u8]) -> bool
-    ensures { result ≡ spec.is_url line.now }
-{
-    line.starts_with(b"URL http://") || line.starts_with(b"URL https://")
-}
-
-#[tactic(auto, unfolding(crate::specs::Paste::is_get))]
-fn is_get(line: &[u8]) -> bool
-    ensures { result ≡ spec.is_get line.now }
-{
-    line.starts_with(b"GET http://") || line.starts_with(b"GET https://")
-}
-
-#[tactic(auto, unfolding(crate::specs::Paste::is_now))]
-fn is_now(line: &[u8]) -> bool
-    ensures { result ≡ spec.is_now line.now }
-{
-    line.starts_with(b"NOW ")
-}
-
 // What a line without blanks around it is.
-#[tactic(auto, unfolding(crate::specs::Paste::kind_of))]
+#[tactic(auto, unfolding(
+    crate::specs::Paste::kind_of,
+    crate::specs::Paste::is_url,
+    crate::specs::Paste::is_get,
+    crate::specs::Paste::is_now
+))]
 fn kind_of(line: &[u8]) -> Kind
     ensures { result ≡ spec.kind_of line.now }
 {
@@ -115,13 +99,13 @@ fn kind_of(line: &[u8]) -> Kind
     if is_field(line) {
         return Kind::Field;
     }
-    if is_url(line) {
+    if line.starts_with(b"URL http://") || line.starts_with(b"URL https://") {
         return Kind::Url;
     }
-    if is_get(line) {
+    if line.starts_with(b"GET http://") || line.starts_with(b"GET https://") {
         return Kind::Get;
     }
-    if is_now(line) {
+    if line.starts_with(b"NOW ") {
         return Kind::Now;
     }
     Kind::Text

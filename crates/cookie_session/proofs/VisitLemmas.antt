@@ -5,11 +5,7 @@ use Rattle.std.proofs.lemmas.List.{nil_from_length}
 use Rattle.std.proofs.lemmas.Option.{same_Some}
 use Rattle.cookie_session.specs.Session.{SessionState}
 use Rattle.cookie_session.specs.Visit.{VisitState, opened_visit}
-use Rattle.cookie_session.specs.VisitError.{failure_of}
-use Rattle.cookie_session.specs.declared.open_error.OpenError.{OpenError}
-use Rattle.cookie_session.specs.declared.open_error.OpenError.TheVariants as unopened
 use Rattle.cookie_session.specs.declared.opened.Opened.{Opened}
-use Rattle.cookie_session.specs.declared.visit_error.VisitError.TheVariants as failure
 use Rattle.cookie_session.proofs.SessionLemmas.{opened}
 
 -- two visits of found sessions are the same exactly if the sessions and the places of their keys are
@@ -28,8 +24,3 @@ is_none all n test is tests holds = nil_from_length all (sym is ∙ (Decides-eqb
 
 pub is_some : {X : Type 0} (all : List X) (n : ℕ) (test : Bool) → n ≡ length all → test ≡ (n == 0) → all ≡ [] → test ≡ true
 is_some all n test is tests empty = tests ∙ (Decides-eqb n 0).1 (is ∙ ap length empty)
-
--- only a failed look-up is told as one
-pub told_failure : {E : Type 0} (o : OpenError E) (error : E) → failure_of o ≡ failure.Revocations error → o ≡ unopened.Revocations error
-told_failure unopened.OutOfMemory error e = absurd (cc)
-told_failure (unopened.Revocations other) error e = cc

@@ -4,8 +4,8 @@ use Rattle.cookie_browser.proofs.received.Received.of.Goals as goal
 pub returns-then-has_control-clause-printed : goal.returns-then-has_control-clause-printed
 returns-then-has_control-clause-printed c = received_printed
 
-pub returns-then-are_too_long-clause-printed : goal.returns-then-are_too_long-clause-printed
-returns-then-are_too_long-clause-printed c = received_printed
+pub returns-then-name-value-gt-MOST_BYTES-clause-printed : goal.returns-then-name-value-gt-MOST_BYTES-clause-printed
+returns-then-name-value-gt-MOST_BYTES-clause-printed c = received_printed
 
 pub returns-clause-printed : goal.returns-clause-printed
 returns-clause-printed c = received_printed
