@@ -11,11 +11,14 @@ import tempfile
 import threading
 import time
 import urllib.request
+from contextlib import contextmanager
 from pathlib import Path
 
 PORT = 8765
 PATH = "/cgi-bin/login.cgi"
 NAME = "__Host-session"
+# The forms by which the program's users log in.
+ANN, BOB = {"user": "ann", "password": "secret"}, {"user": "bob", "password": "hidden"}
 
 
 def check(what, is_right, seen=""):
@@ -42,6 +45,12 @@ class Site:
         # The field `Cookie` of the last request for each path.
         self.heard = {}
         self.keep("revoked.db")
+
+    def __enter__(self):
+        return self
+
+    def __exit__(self, *_):
+        shutil.rmtree(self.folder, ignore_errors=True)
 
     def keep(self, name):
         """From the next request on, the file of that name has the revoked sessions."""
@@ -91,23 +100,32 @@ def start(handler, certificate=None):
     server = Server(("127.0.0.1", 0), handler)
     if certificate:
         context = ssl.SSLContext(ssl.PROTOCOL_TLS_SERVER)
-        context.load_cert_chain(certificate.path, certificate.key)
+        context.load_cert_chain(certificate)
         # The handshake is the handler's, so that a client that is slow holds up no other.
         server.socket = context.wrap_socket(server.socket, server_side=True, do_handshake_on_connect=False)
     threading.Thread(target=server.serve_forever, daemon=True).start()
     return server
 
 
+@contextmanager
 def serve(site):
-    """Starts Python's CGI server over the site's folder; what ends it again."""
+    """Python's CGI server over the site's folder."""
     with open(site.folder / "log", "w") as log:
         command = [sys.executable, "-m", "http.server", "--cgi", "--bind", "127.0.0.1", str(PORT)]
         server = subprocess.Popen(command, cwd=site.folder, stdout=log, stderr=log)
+    try:
+        wait()
+        yield
+    finally:
+        server.terminate()
+        server.wait()
+
+
+def wait():
+    """Waits until the server answers."""
     for _ in range(100):
         try:
-            urllib.request.urlopen(f"http://127.0.0.1:{PORT}/log", timeout=1).close()
-            return lambda: (server.terminate(), server.wait())
+            return urllib.request.urlopen(f"http://127.0.0.1:{PORT}/log", timeout=1).close()
         except OSError:
             time.sleep(0.1)
-    server.terminate()
     sys.exit("python3 -m http.server doesn't answer")

@@ -26,3 +26,5 @@ mod rings;
 mod streams;
 #[cfg(test)]
 mod values;
+#[cfg(test)]
+mod visits;
