@@ -11,7 +11,9 @@ use cookie_core::Cookie;
 pub fn is_attribute_value(text: &str) -> bool
     ensures { IsTrue result ↔ IsAttributeValue text.now }
 {
-    text.as_bytes().iter().all(|&byte| byte >= b' ' && byte != 127 && byte != b';')
+    text.as_bytes()
+        .iter()
+        .all(|&byte| byte >= b' ' && byte != 127 && byte != b';')
 }
 
 /// Returns whether the cookie's path and domain, if it has them, can be values of attributes (`is_attribute_value`). It

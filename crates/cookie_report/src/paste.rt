@@ -84,12 +84,7 @@ fn is_field(line: &[u8]) -> bool
 }
 
 // What a line without blanks around it is.
-#[tactic(auto, unfolding(
-    crate::specs::Paste::kind_of,
-    crate::specs::Paste::is_url,
-    crate::specs::Paste::is_get,
-    crate::specs::Paste::is_now
-))]
+#[tactic(auto, unfolding(crate::specs::Paste::kind_of, crate::specs::Paste::is_url, crate::specs::Paste::is_get, crate::specs::Paste::is_now))]
 fn kind_of(line: &[u8]) -> Kind
     ensures { result ≡ spec.kind_of line.now }
 {
