@@ -4,14 +4,14 @@ import http.server
 import os
 import secrets
 import shutil
+import socket
 import ssl
 import subprocess
 import sys
 import tempfile
 import threading
 import time
-import urllib.request
-from contextlib import contextmanager
+from contextlib import contextmanager, suppress
 from pathlib import Path
 
 PORT = 8765
@@ -114,18 +114,11 @@ def serve(site):
         command = [sys.executable, "-m", "http.server", "--cgi", "--bind", "127.0.0.1", str(PORT)]
         server = subprocess.Popen(command, cwd=site.folder, stdout=log, stderr=log)
     try:
-        wait()
+        while server.poll() is None:
+            with suppress(OSError), socket.create_connection(("127.0.0.1", PORT)):
+                break
+            time.sleep(0.1)
         yield
     finally:
         server.terminate()
         server.wait()
-
-
-def wait():
-    """Waits until the server answers."""
-    for _ in range(100):
-        try:
-            return urllib.request.urlopen(f"http://127.0.0.1:{PORT}/log", timeout=1).close()
-        except OSError:
-            time.sleep(0.1)
-    sys.exit("python3 -m http.server doesn't answer")
