@@ -2,31 +2,17 @@
 //! that is wrong, and then how many are right. README.md has the form of the rows.
 #![tactic(auto)]
 
-mod agent;
-mod answers;
-mod browser;
-mod browsing;
-mod choices;
-mod cipher;
-mod clients;
-mod cookie_words;
-mod cookies;
-mod dates;
-mod escapes;
-mod http;
-mod jar_calls;
-mod jars;
-mod printed;
-mod refusals;
-mod row;
-mod runs;
-mod sessions;
-mod sources;
-mod step;
-
 use anyhow::Result;
 use cookie_browser::Suffixes;
-use row::{Row, Wrong, rows};
+use rows::{Row, Wrong, read_rows};
+use rows_agents::Agents;
+use rows_browsers::{Browser, Choosers, SuffixList};
+use rows_cipher::Cipher;
+use rows_clients::{Clients, Runs};
+use rows_http::{Headers, Refusals};
+use rows_jars::Jars;
+use rows_sessions::Visitors;
+use rows_values::{Dates, cookies};
 use std::alloc::Global;
 use std::fs;
 use std::process::ExitCode;
@@ -42,19 +28,19 @@ const SUFFIXES: &[u8] = b"com\nco.uk\ngithub.io\n*.ck\n!www.ck\nexample\n";
 // The first step of a file's row that is wrong, if one is.
 fn wrong<'t>(alloc: Global, suffixes: &Suffixes, file: &str, row: &Row<'t>) -> Option<Wrong<'t>> {
     match file {
-        "dates" => row.wrong(Some(dates::Dates)),
+        "dates" => row.wrong(Some(Dates)),
         "cookies" | "cookie_fields" | "cut_cookies" => cookies::wrong(row),
-        "jars" | "prefixes" | "secrets" | "headers" => row.wrong(Some(jars::Jars::new(alloc))),
-        "refusals" => row.wrong(Some(refusals::Refusals)),
-        "cipher" => row.wrong(Some(cipher::Cipher)),
-        "sessions" => row.wrong(sessions::Visitors::new(alloc, suffixes)),
-        "http" => row.wrong(http::Headers::new(alloc)),
-        "browser" => row.wrong(Some(browser::Browser(suffixes))),
-        "suffixes" => row.wrong(Some(browser::SuffixList(Suffixes::empty(alloc)))),
-        "agent" => row.wrong(agent::Agents::new(alloc, suffixes)),
-        "choices" => row.wrong(choices::Choosers::new(alloc, suffixes)),
-        "clients" => row.wrong(Some(clients::Clients::new(alloc))),
-        _ => row.wrong(Some(runs::Runs)),
+        "jars" | "prefixes" | "secrets" | "headers" => row.wrong(Some(Jars::new(alloc))),
+        "refusals" => row.wrong(Some(Refusals)),
+        "cipher" => row.wrong(Some(Cipher)),
+        "sessions" => row.wrong(Visitors::new(alloc, suffixes)),
+        "http" => row.wrong(Headers::new(alloc)),
+        "browser" => row.wrong(Some(Browser(suffixes))),
+        "suffixes" => row.wrong(Some(SuffixList(Suffixes::empty(alloc)))),
+        "agent" => row.wrong(Agents::new(alloc, suffixes)),
+        "choices" => row.wrong(Choosers::new(alloc, suffixes)),
+        "clients" => row.wrong(Some(Clients::new(alloc))),
+        _ => row.wrong(Some(Runs)),
     }
 }
 
@@ -75,7 +61,7 @@ fn print(rt: &HostRuntime, file: &str, row: &Row<'_>, wrong: Wrong<'_>) -> Resul
 fn play(rt: &HostRuntime, suffixes: &Suffixes, file: &str) -> Result<(usize, usize)> {
     let (mut right, mut faults) = (0usize, 0usize);
     let text = fs::read_to_string(rt, format!(in rt.alloc(); "{file}.tsv")?)?;
-    for row in &rows(rt.alloc(), text.as_str())? {
+    for row in &read_rows(rt.alloc(), text.as_str())? {
         if row.is_for_rust() {
             match wrong(rt.alloc(), suffixes, file, row) {
                 Some(wrong) => {

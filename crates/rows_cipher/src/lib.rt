@@ -1,0 +1,6 @@
+//! What plays the rows on the cipher.
+#![tactic(auto)]
+
+mod cipher;
+
+pub use cipher::Cipher;
