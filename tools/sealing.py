@@ -11,7 +11,7 @@ from cryptography.hazmat.primitives.ciphers.aead import AESGCM
 
 TOP = Path(__file__).resolve().parent.parent
 DATA = TOP / "crates/cookie_vectors/data"
-GIVEN = (TOP / "crates/cookie_vectors/src/jar_calls/given.rt").read_text()
+GIVEN = (TOP / "crates/rows_children/src/given.rt").read_text()
 # The test key.
 KEY = bytes(int(number) for number in re.findall(r"\d+", re.search(r"TEST_KEY: \[u8; 64\] = \[([^\]]*)\]", GIVEN)[1]))
 ID = bytes([7] * 16)

@@ -52,6 +52,11 @@ def crates_below(name):
     return sorted(found)
 
 
+def players():
+    """The crates that play rows, which are tests and no products: `rows`, and those that stand on it."""
+    return {name for name in crate_lines() if "rows" in crates_below(name)}
+
+
 def words_of(crate):
     """The words of `rattle check` and `rattle build` for a crate, over the libraries in the folders out/ below it."""
     folder, below = kit(), crate_lines()

@@ -10,7 +10,7 @@ from rowfile import unescaped
 
 def test_key():
     """The key of the crate's tests."""
-    given = (rowfile.DATA.parent / "src/jar_calls/given.rt").read_text()
+    given = (rowfile.DATA.parent.parent / "rows_children/src/given.rt").read_text()
     return bytes(map(int, re.findall(r"\d+", re.search(r"TEST_KEY: \[u8; 64\] = \[([^\]]*)\]", given)[1])))
 
 
