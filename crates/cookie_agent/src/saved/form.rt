@@ -53,7 +53,7 @@ impl SavedForm {
     ///
     /// A caller writes the text to a new file beside the old one, and renames it: then a crash leaves one of the two.
     /// Only the owner should be able to read it, since cookies are credentials.
-    /// Example: `loaded` in crates/cookie_vectors/src/agent.rt.
+    /// Example: `save` in crates/cookie_c/src/agent/save.rt.
     pub fn write(
         self,
         alloc: Global,
@@ -84,7 +84,7 @@ impl SavedForm {
     /// for a public suffix and the hosts below it, and one whose domain is no host, as with a port or a byte order mark.
     /// Empty lines say nothing, and a line may end in CR LF. `now` is in UTC. A cookie that expires more than 400 days
     /// after `now` expires then (RFC 6265bis, Cookie Lifetime Limits), and a last access after `now` is `now`.
-    /// Example: `loaded` in crates/cookie_vectors/src/agent.rt.
+    /// Example: `load` in crates/cookie_c/src/agent/load.rt.
     pub fn read(
         self,
         alloc: Global,
