@@ -1,52 +1,55 @@
 """The rows of crates/cookie_vectors/data/agent.tsv, whose answers are those of RFC 6265bis, played over a local server."""
-import datetime
-import sys
 import tempfile
 import unittest
 from pathlib import Path
+from urllib.parse import urlsplit
 
 import pytest
 from clients import CLIENTS
 from deomigal import Agent
 from deomigal.agents import CROSS_SITE, CROSS_SITE_LINK, SAME_SITE
-from helpers import TOP
+from rows.agents import Agents, shown
+from rows.browser import LIST
+from rows.player import faults_of
+from rows.rowfile import DATA, rows, unescaped
 from server import Servers, resolved
 
-sys.path.insert(0, str(TOP / "tools/c/steps"))
-rowfile = pytest.importorskip("rowfile")
-ROWS = rowfile.rows(rowfile.DATA / "agent.tsv")
-MINUTE = int(datetime.datetime(2015, 10, 21, 7, 28, tzinfo=datetime.timezone.utc).timestamp())
-# The rules of the rows.
-SUFFIXES = "com\nco.uk\ngithub.io\n*.ck\n!www.ck\n"
 # How a request came about, by its word: the context, and the method.
 HOWS = {"get": (SAME_SITE, "GET"), "link": (CROSS_SITE_LINK, "GET"), "post": (CROSS_SITE_LINK, "POST"), "frame": (CROSS_SITE, "GET")}
 CALLS = {"on", "by", "at", "set", "header", "retrieve"}
+ROWS = rows("agent.tsv") if DATA.exists() else []
 
 
 def hosts():
     """The hosts of the rows."""
-    from urllib.parse import urlsplit
-
     urls = [step.words for row in ROWS for step in row.steps if step.call == "on"]
     return sorted({urlsplit(url).hostname for url in urls} - {None, ""})
 
 
-def played(client, servers, clock, steps):
-    """The steps at which the client sends something else, and what it sends."""
-    url, (context, method) = "http://example.com/", HOWS["get"]
-    for step in steps:
-        if step.call == "on":
-            url = step.words
-        elif step.call == "by":
-            context, method = HOWS[step.words]
-        elif step.call == "at":
-            clock[0] = MINUTE + int(step.words)
-        else:
-            servers.texts = [rowfile.unescaped(step.words)] if step.call == "set" else []
-            client.ask(url, method, context)
-            sent = servers.asked[-1][1]
-            if step.call != "set" and (sent or b"-") != rowfile.unescaped(step.wanted):
-                yield step.line, sent, step.wanted
+class ByClient(Agents):
+    """Plays a row by a client, which makes a request for each step."""
+
+    def __init__(self, kind, servers):
+        super().__init__(None)
+        self.agent = Agent(LIST, is_localhost_secure=False, clock=lambda: self.now)
+        self.client, self.servers = kind(self.agent, servers.certificate[0]), servers
+
+    def ask(self, *texts):
+        """The `Cookie` header of a request, which is answered with these texts."""
+        self.servers.texts = list(texts)
+        context, method = HOWS[self.how]
+        self.client.ask(self.url, method, context)
+        return shown(self.servers.asked[-1][1])
+
+    def on_set(self, step):
+        self.ask(unescaped(step.words))
+        # The client doesn't say whether it stores the cookie.
+        return unescaped(step.wanted)
+
+    def on_header(self, _):
+        return self.ask()
+
+    on_retrieve = on_header
 
 
 class Rows(unittest.TestCase):
@@ -65,17 +68,15 @@ class Rows(unittest.TestCase):
     def play(self, kind):
         """Plays each row that needs no other call."""
         pytest.importorskip(kind.needs)
-        rows = [row for row in ROWS if {step.call for step in row.steps} <= CALLS]
-        assert len(rows) > 20
-        for row in rows:
-            clock = [MINUTE]
-            agent = Agent(SUFFIXES, is_localhost_secure=False, clock=lambda: clock[0])
-            with self.subTest(row=row.title), agent, resolved(self.servers):
-                client = kind(agent, self.servers.certificate[0])
+        chosen = [row for row in ROWS if {step.call for step in row.steps} <= CALLS]
+        assert len(chosen) > 20
+        for row in chosen:
+            with self.subTest(row=row.title), resolved(self.servers):
+                player = ByClient(kind, self.servers)
                 try:
-                    assert list(played(client, self.servers, clock, row.steps)) == []
+                    assert faults_of(row, player) == []
                 finally:
-                    client.close()
+                    player.client.close()
 
 
 def player_of(kind):

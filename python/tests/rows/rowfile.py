@@ -1,11 +1,14 @@
 """Reads the rows of crates/cookie_vectors/data. That crate's README.md has their form."""
 import datetime
-import pathlib
+import os
 import re
+from pathlib import Path
 from typing import NamedTuple
 
-DATA = pathlib.Path(__file__).resolve().parent.parent.parent.parent / "crates/cookie_vectors/data"
-PLAYERS = {"rattle", "c", "python", "original"}
+TOP = Path(__file__).resolve().parents[3]
+# The variable DATA names another folder of rows.
+DATA = Path(os.environ.get("DATA", TOP / "crates/cookie_vectors/data"))
+PLAYERS = {"rattle", "library", "original"}
 
 
 class Step(NamedTuple):
@@ -16,7 +19,7 @@ class Step(NamedTuple):
 
 
 class Row(NamedTuple):
-    path: pathlib.Path
+    path: Path
     title: str
     source: str
     not_for: set
@@ -24,7 +27,8 @@ class Row(NamedTuple):
 
 
 class Cookie(NamedTuple):
-    """A cookie's words: its name and value, and the words of its attributes by their names. Texts are bytes."""
+    """A cookie's words: its name and value, and its attributes by their names. Texts are bytes, an age is a number, or
+    words with a point, and an expiry six numbers or `session`. A flag is empty, or `false`."""
 
     name: bytes
     value: bytes
@@ -44,9 +48,9 @@ def players_in(column):
     return players
 
 
-def rows(path):
+def rows(name):
     """The rows of a file."""
-    made = []
+    made, path = [], DATA / name
     for line, text in enumerate(path.read_text().split("\n"), 1):
         if text.startswith("\t"):
             made[-1].steps.append(step(line, text[1:]))
@@ -74,13 +78,29 @@ def unescaped(text):
     return ESCAPE.sub(escape, text.encode())
 
 
+def items(text):
+    """The items of a list, whose answer is `-` if it is empty."""
+    return [] if text == "-" else text.split(" | ")
+
+
+# What an attribute's words mean, if that isn't the words.
+MEANINGS = {
+    "Path": unescaped, "Domain": unescaped, "Max-Age": lambda words: words if "." in words else int(words),
+    "Expires": lambda words: words if words == "session" else date(words),
+}
+
+
+def attribute(words):
+    """The name and the meaning of an attribute."""
+    name, _, value = words.partition("=")
+    return name, MEANINGS.get(name, str)(value)
+
+
 def cookie(words):
     """The cookie of the words. Words without `=` are a name, with the empty value."""
     pair, *fields = words.split("; ")
     name, _, value = pair.partition("=")
-    attributes = dict(field.partition("=")[::2] for field in fields)
-    texts = {word: unescaped(attributes[word]) for word in ("Path", "Domain") if word in attributes}
-    return Cookie(unescaped(name), unescaped(value), {**attributes, **texts})
+    return Cookie(unescaped(name), unescaped(value), dict(map(attribute, fields)))
 
 
 def date(text):

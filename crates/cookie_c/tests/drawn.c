@@ -6,29 +6,21 @@
  * Each argument ends or begins where its memory does, so that a byte beyond it is a fault. With -DEXACT it is a block
  * of malloc instead, for valgrind. The same seed makes the same calls. */
 #define _GNU_SOURCE
-#include "cookie.h"
+#include "memory.h"
 #include <pthread.h>
 #include <stdio.h>
-#include <stdlib.h>
-#include <string.h>
-#include <sys/mman.h>
-#include <unistd.h>
 
-enum { ROOM = 1 << 16, SLOTS = 8, KEPT = 4, MARGIN = 64, LONGEST = 6000, STATUSES = 33, PAIR = 2 };
+enum { SLOTS = 8, KEPT = 4, MARGIN = 64, LONGEST = 6000, STATUSES = 33, PAIR = 2 };
 
 typedef struct text {
     const uint8_t *bytes;
     size_t length;
 } text;
 
-typedef struct region {
-    uint8_t *start;
-} region;
-
 typedef struct drawing {
     uint64_t state;
     size_t number, count, faults;
-    region slots[SLOTS], room;
+    uint8_t *slots[SLOTS], *room;
     int slot;
     uint8_t *out;
     size_t length, margin_before, margin_after;
@@ -132,19 +124,6 @@ enum { CALLS(NUMBER) COUNT };
 static const char *const NAMES[] = {CALLS(NAME)};
 static const uint64_t MASKS[] = {CALLS(MASK)};
 
-/* Which request for memory of this thread's call is refused; 0 if none is. */
-static _Thread_local size_t refused_at = 0;
-
-void *__real_malloc(size_t size);
-void *__real_realloc(void *at, size_t size);
-void *__wrap_malloc(size_t size);
-void *__wrap_realloc(void *at, size_t size);
-
-void *__wrap_malloc(size_t size) { return refused_at > 0 && --refused_at == 0 ? NULL : __real_malloc(size); }
-void *__wrap_realloc(void *at, size_t size) {
-    return refused_at > 0 && --refused_at == 0 ? NULL : __real_realloc(at, size);
-}
-
 static uint64_t draw(drawing *d) {
     uint64_t z = (d->state += 0x9e3779b97f4a7c15);
     z = (z ^ (z >> 30)) * 0xbf58476d1ce4e5b9;
@@ -160,33 +139,20 @@ static void fault(drawing *d, int call, const char *what) {
         fprintf(stderr, "thread %zu, call %zu, cookie_%s: %s\n", d->number, d->count, NAMES[call], what);
 }
 
+/* Memory of that length: the region's first bytes, or its last ones; or a block of its own. */
+static uint8_t *place(drawing *d, uint8_t **at, size_t length) {
 #ifdef EXACT
-static void make_region(region *at) { at->start = NULL; }
-
-static uint8_t *place(drawing *d, region *at, size_t length) {
-    free(at->start);
-    at->start = length > 0 ? __real_malloc(length) : NULL;
+    free(*at);
     d->margin_before = d->margin_after = 0;
-    return at->start;
-}
+    return *at = length > 0 ? __real_malloc(length) : NULL;
 #else
-static void make_region(region *at) {
-    size_t page = (size_t)sysconf(_SC_PAGESIZE);
-    uint8_t *all = mmap(NULL, ROOM + 2 * page, PROT_NONE, MAP_PRIVATE | MAP_ANONYMOUS, -1, 0);
-    if (all == MAP_FAILED || mprotect(all + page, ROOM, PROT_READ | PROT_WRITE) != 0)
-        exit(2);
-    at->start = all + page;
-}
-
-/* Memory of that length, at the region's start or at its end. */
-static uint8_t *place(drawing *d, region *at, size_t length) {
     bool is_first = one_in(d, 2);
     size_t margin = ROOM - length < MARGIN ? ROOM - length : MARGIN;
     d->margin_before = is_first ? 0 : margin;
     d->margin_after = is_first ? margin : 0;
-    return at->start + (is_first ? 0 : ROOM - length);
-}
+    return *at + (is_first ? 0 : ROOM - length);
 #endif
+}
 
 /* The bytes in the next slot. An empty text may be a null pointer. */
 static text text_of(drawing *d, const void *bytes, size_t length) {
@@ -413,7 +379,7 @@ static void draw_room(drawing *d) {
 
 /* Looks at a status, and at the rest of a buffer of which `written` bytes may be others. */
 static void look(drawing *d, int call, uint32_t status, size_t written, bool was_starved) {
-    refused_at = 0;
+    refuse(0);
     d->met[call][status < STATUSES ? status : 0]++;
     bool is_known = status == COOKIE_DONE || (status < STATUSES && (MASKS[call] >> status & 1) == 1);
     if (!is_known && !(status == COOKIE_OUT_OF_MEMORY && was_starved))
@@ -446,16 +412,6 @@ static bool is_within(cookie_span at, size_t length) { return at.start <= length
         status = (expression); \
         look(d, it##_call, status, 0, starved); \
     } while (0)
-
-/* What is told of a token's value. */
-static cookie_answer answer_of_token(cookie_token_reading token) {
-    return (cookie_answer){token.status, token.length};
-}
-
-/* What is told of a URL's host and path. */
-static cookie_answer answer_of_url(cookie_url_reading url) {
-    return (cookie_answer){url.status, url.path.start + url.path.length};
-}
 
 /* Makes a call that writes a text, and again with a buffer of the length that it needs. */
 #define WRITES(it, expression) \
@@ -501,7 +457,7 @@ static cookie_answer answer_of_url(cookie_url_reading url) {
 
 /* Has one of the next requests for memory refused, in one call of 32. */
 static bool starve(drawing *d) {
-    refused_at = one_in(d, 32) ? 1 + below(d, 12) : 0;
+    refuse(one_in(d, 32) ? 1 + below(d, 12) : 0);
     return refused_at > 0;
 }
 
@@ -548,7 +504,7 @@ static void play_keys(drawing *d, int call) {
         WRITES(token_make, cookie_token_make(keys, &settings, IN(value), IN(nonce), now, d->out, d->length));
         look_at_handle(d, token_make_call, status, *has, COOKIE_NO_KEYS, S(BAD_NONCE));
         text made = answer.status == COOKIE_DONE && !one_in(d, 4) ? text_of(d, d->out, answer.length) : value;
-        WRITES(token_read, answer_of_token(cookie_token_read(keys, &settings, IN(made), later, d->out, d->length)));
+        WRITES(token_read, of_token(cookie_token_read(keys, &settings, IN(made), later, d->out, d->length)));
     }
     }
     look_at_handle(d, call, status, *has, COOKIE_NO_KEYS, 0);
@@ -596,7 +552,7 @@ static void play_plain(drawing *d, int call) {
     }
     case read_url_call: {
         text url = draw_text(d, A_URL);
-        WRITES(read_url, answer_of_url(cookie_read_url(IN(url), d->out, d->length)));
+        WRITES(read_url, of_url(cookie_read_url(IN(url), d->out, d->length)));
         break;
     }
     default:
@@ -1070,9 +1026,11 @@ static size_t wanted;
 
 static void *play_all(void *at) {
     drawing *d = at;
+#ifndef EXACT
     for (int i = 0; i < SLOTS; i++)
-        make_region(&d->slots[i]);
-    make_region(&d->room);
+        d->slots[i] = region();
+    d->room = region();
+#endif
     while (d->count < wanted)
         play(d);
     for (int i = 0; i < PAIR; i++) {
