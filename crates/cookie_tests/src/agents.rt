@@ -7,7 +7,7 @@ use jiff::SignedDuration;
 use jiff::civil::DateTime;
 use std::alloc::{AllocError, Global};
 
-// What each hundred lists come to by a second body of the agent, in tools/drawn-codes.
+// What each hundred lists come to by a second body of the agent, in Python.
 const CODES: &str = "\
 586fa6254fbb3578 16ea0675e2457035 8392447acfdf9d3d b917cf426a7331d7 0f84d149aecc7215 \
 7c4bd11957378a42 5dc006e6ba093385 01469b2cb4d8f28e c8ba3ac93d48ae43 3eb0fa6a672d2c32";

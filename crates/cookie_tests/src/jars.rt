@@ -5,7 +5,7 @@ use cookie::{Cookie, CookieJar};
 use cookie_client::{ClientRequest, JarCall, Played, replay, rounds};
 use std::alloc::{AllocError, Global};
 
-// What each hundred lists come to by a second body of both, in tools/drawn-codes.
+// What each hundred lists come to by a second body of both, in Python.
 const CODES: &str = "\
 b0c4af0d866efc83 8bf7cba220d526cf 2bbe23afabb5fd50 f1dcdc2f35f8da74 26828e1cbccda0f8 \
 596d6d48fe75d4ae 63edef3ae2b2e517 330253bae73090e6 2f4b493b1a710e14 4c37df8438023928";
