@@ -10,7 +10,12 @@
 #include <pthread.h>
 #include <stdio.h>
 
-enum { SLOTS = 8, KEPT = 4, MARGIN = 64, LONGEST = 6000, STATUSES = 33, PAIR = 2 };
+enum { SLOTS = 24, KEPT = 4, MARGIN = 64, LONGEST = 6000, STATUSES = 33, PAIR = 2 };
+
+typedef enum kind { KEYS, JAR, SITE, OPENED, SESSION, LIST, AGENT, KINDS, NONE = KINDS } kind;
+/* What is said of a handle with nothing. */
+static const uint32_t NOTHING[] = {COOKIE_NO_KEYS,    COOKIE_NO_JAR,      COOKIE_NO_SESSIONS, COOKIE_NO_SESSION,
+                                   COOKIE_NO_SESSION, COOKIE_NO_SUFFIXES, COOKIE_NO_AGENT};
 
 typedef struct text {
     const uint8_t *bytes;
@@ -20,10 +25,10 @@ typedef struct text {
 typedef struct drawing {
     uint64_t state;
     size_t number, count, faults;
-    uint8_t *slots[SLOTS], *room;
+    uint8_t *slots[SLOTS], *room, *out;
     int slot;
-    uint8_t *out;
     size_t length, margin_before, margin_after;
+    bool was_starved;
     cookie_keys keys[PAIR];
     cookie_jar jars[PAIR];
     cookie_sessions sites[PAIR];
@@ -31,98 +36,114 @@ typedef struct drawing {
     cookie_session sessions[PAIR];
     cookie_suffixes lists[PAIR];
     cookie_agent agents[PAIR];
-    bool has_keys[PAIR], has_jar[PAIR], has_site[PAIR], has_opened[PAIR], has_session[PAIR], has_list[PAIR], has_agent[PAIR];
+    bool has[KINDS][PAIR];
     char kept[KEPT][LONGEST];
     size_t met[80][STATUSES];
 } drawing;
 
-/* The calls, and the statuses that the header has for each, beside COOKIE_DONE and COOKIE_OUT_OF_MEMORY. */
+/* The calls: the statuses that the header has for each, beside COOKIE_DONE and COOKIE_OUT_OF_MEMORY; the handles whose
+ * having nothing is refused, each with the refusals that come before; and the handle that has something then. */
 #define S(status) ((uint64_t)1 << COOKIE_##status)
+#define PLAIN NONE, 0, NONE, 0
+#define ON(kind) kind, 0, NONE, 0
+#define SHORT S(BUFFER_TOO_SHORT)
+#define PAIRS (S(NOT_UTF8) | S(MISSING_PAIR) | S(EMPTY_NAME))
+#define READS (S(NOT_UTF8) | S(NO_DATE))
 #define CALLS(X) \
-    X(derive_key, S(BUFFER_TOO_SHORT) | S(MASTER_TOO_SHORT)) \
-    X(keys_new, S(KEY_TOO_SHORT)) \
-    X(keys_free, 0) \
-    X(sign, S(BUFFER_TOO_SHORT) | S(NO_KEYS) | S(NOT_UTF8)) \
-    X(verify, S(BUFFER_TOO_SHORT) | S(NO_KEYS) | S(NOT_UTF8) | S(NOT_SIGNED)) \
-    X(seal, S(BUFFER_TOO_SHORT) | S(NO_KEYS) | S(NOT_UTF8) | S(BAD_NONCE) | S(TOO_LONG)) \
-    X(open, S(BUFFER_TOO_SHORT) | S(NO_KEYS) | S(NOT_UTF8) | S(NOT_SEALED)) \
-    X(read_date, S(NOT_UTF8) | S(NO_DATE)) \
-    X(print_date, S(BUFFER_TOO_SHORT) | S(NO_DATE)) \
-    X(run, S(BUFFER_TOO_SHORT) | S(BAD_MOMENT) | S(NOT_UTF8) | S(BAD_LINE)) \
-    X(next_pair, S(NOT_UTF8) | S(MISSING_PAIR) | S(EMPTY_NAME) | S(NO_PAIR)) \
-    X(next_pair_decoded, \
-      S(BUFFER_TOO_SHORT) | S(NOT_UTF8) | S(MISSING_PAIR) | S(EMPTY_NAME) | S(NO_PAIR) | S(BAD_ESCAPE)) \
-    X(read_pairs, S(BUFFER_TOO_SHORT)) \
-    X(read, S(NOT_UTF8) | S(MISSING_PAIR) | S(EMPTY_NAME)) \
-    X(read_decoded, S(BUFFER_TOO_SHORT) | S(NOT_UTF8) | S(MISSING_PAIR) | S(EMPTY_NAME) | S(BAD_ESCAPE)) \
-    X(print, S(BUFFER_TOO_SHORT) | S(BAD_ATTRIBUTE) | S(NO_DATE) | S(NOT_UTF8) | S(INVALID_VALUE)) \
-    X(jar_new, 0) \
-    X(jar_add_originals, S(NO_JAR)) \
-    X(jar_add, S(NO_JAR) | S(NOT_UTF8) | S(MISSING_PAIR) | S(EMPTY_NAME) | S(BAD_ESCAPE) | S(INVALID_VALUE)) \
-    X(jar_remove, S(NO_JAR) | S(NOT_UTF8) | S(NO_DATE)) \
-    X(jar_remove_scoped, S(NO_JAR) | S(NOT_UTF8) | S(INVALID_VALUE) | S(NO_DATE)) \
-    X(jar_get, S(BUFFER_TOO_SHORT) | S(NO_JAR) | S(NOT_UTF8) | S(NOT_FOUND)) \
-    X(jar_delta, S(BUFFER_TOO_SHORT) | S(NO_JAR)) \
-    X(jar_cookies, S(BUFFER_TOO_SHORT) | S(NO_JAR)) \
-    X(jar_free, 0) \
-    X(sessions_new, \
-      S(KEY_TOO_SHORT) | S(NOT_UTF8) | S(MISSING_PAIR) | S(EMPTY_NAME) | S(BAD_ESCAPE) | S(INVALID_VALUE)) \
-    X(sessions_free, 0) \
-    X(opened_new, S(NO_SESSIONS) | S(NO_DATE)) \
-    X(opened_ids, S(BUFFER_TOO_SHORT) | S(NO_SESSION)) \
-    X(opened_take, S(BAD_IDS) | S(NO_SESSION)) \
-    X(opened_free, 0) \
-    X(session_open, S(NO_SESSIONS) | S(NO_DATE) | S(NO_SESSION)) \
-    X(session_start, S(BAD_NONCE) | S(NO_SESSIONS) | S(NO_DATE)) \
-    X(session_describe, S(NO_SESSION)) \
-    X(session_given, S(NO_SESSION) | S(NOT_FOUND)) \
-    X(session_replace, S(NO_DATE) | S(NO_SESSION) | S(NOT_FOUND) | S(GONE)) \
-    X(session_log_out, S(NO_DATE) | S(NO_SESSION) | S(NOT_FOUND) | S(GONE)) \
-    X(session_set_generation, S(NO_SESSION)) \
-    X(session_is_since, 0) \
-    X(session_get, S(BUFFER_TOO_SHORT) | S(NO_SESSION) | S(NOT_UTF8) | S(NOT_FOUND)) \
-    X(session_set, S(NO_SESSION) | S(NOT_UTF8)) \
-    X(session_remove, S(NO_SESSION) | S(NOT_UTF8)) \
-    X(session_texts, S(BUFFER_TOO_SHORT) | S(NO_SESSION)) \
-    X(session_list, S(BUFFER_TOO_SHORT) | S(NO_SESSION)) \
-    X(session_set_texts, S(NO_SESSION)) \
-    X(session_renew, S(BAD_NONCE) | S(NO_SESSIONS) | S(NO_DATE) | S(NO_SESSION)) \
-    X(session_must_save, S(NO_SESSIONS) | S(NO_DATE) | S(NO_SESSION)) \
-    X(session_save, S(BUFFER_TOO_SHORT) | S(BAD_NONCE) | S(BAD_ATTRIBUTE) | S(NO_SESSIONS) | S(NO_DATE) | S(NO_SESSION) \
-                        | S(BAD_PREFIX) | S(OVER) | S(TOO_LONG) | S(TOO_LARGE) | S(REPLACES)) \
-    X(session_end, S(BUFFER_TOO_SHORT) | S(NO_SESSIONS) | S(NO_DATE)) \
-    X(session_free, 0) \
-    X(token_make, S(BUFFER_TOO_SHORT) | S(BAD_NONCE) | S(NO_KEYS) | S(NOT_UTF8) | S(NO_DATE) | S(TOO_LONG)) \
-    X(token_read, S(BUFFER_TOO_SHORT) | S(NO_KEYS) | S(NOT_UTF8) | S(NO_DATE) | S(TOO_LONG) | S(NOT_SEALED)) \
-    X(suffixes_new, 0) \
-    X(suffixes_free, 0) \
-    X(explain, S(BUFFER_TOO_SHORT) | S(NO_SUFFIXES) | S(NO_DATE)) \
-    X(explain_lines, S(BUFFER_TOO_SHORT) | S(NO_SUFFIXES) | S(NO_DATE) | S(NOT_UTF8) | S(NO_URL)) \
-    X(read_url, S(BUFFER_TOO_SHORT) | S(NOT_UTF8) | S(NO_URL)) \
-    X(refusal_sentence, S(BUFFER_TOO_SHORT) | S(NOT_FOUND)) \
-    X(refusal_section, S(BUFFER_TOO_SHORT) | S(NOT_FOUND)) \
-    X(agent_new, 0) \
-    X(agent_read, S(NO_SUFFIXES) | S(NO_AGENT) | S(NO_DATE) | S(NOT_UTF8)) \
-    X(agent_header, S(BUFFER_TOO_SHORT) | S(NO_AGENT) | S(NO_DATE) | S(NOT_UTF8)) \
-    X(agent_retrieve, S(BUFFER_TOO_SHORT) | S(NO_AGENT) | S(NO_DATE) | S(NOT_UTF8)) \
-    X(agent_evict, S(NO_AGENT) | S(NO_DATE)) \
-    X(agent_trim, S(NO_SUFFIXES) | S(NO_AGENT) | S(NO_DATE)) \
-    X(agent_remove, S(NO_AGENT) | S(NOT_FOUND)) \
-    X(agent_clear, S(NO_AGENT)) \
-    X(agent_count, S(NO_AGENT)) \
-    X(agent_cookie, S(BUFFER_TOO_SHORT) | S(NO_AGENT) | S(NO_DATE) | S(NOT_FOUND)) \
-    X(agent_obstacles, S(NO_AGENT) | S(NO_DATE) | S(NOT_UTF8) | S(NOT_FOUND)) \
-    X(agent_save, S(BUFFER_TOO_SHORT) | S(NO_AGENT) | S(BAD_ATTRIBUTE) | S(NO_DATE)) \
-    X(agent_load, S(NO_SUFFIXES) | S(NO_AGENT) | S(BAD_ATTRIBUTE) | S(NO_DATE)) \
-    X(agent_free, 0) \
-    X(version, 0)
+    X(derive_key, SHORT | S(MASTER_TOO_SHORT), PLAIN, NONE) \
+    X(read_date, READS, PLAIN, NONE) \
+    X(print_date, SHORT | S(NO_DATE), PLAIN, NONE) \
+    X(run, SHORT | S(BAD_MOMENT) | S(NOT_UTF8) | S(BAD_LINE), PLAIN, NONE) \
+    X(print, SHORT | READS | S(BAD_ATTRIBUTE) | S(INVALID_VALUE), PLAIN, NONE) \
+    X(refusal_sentence, SHORT | S(NOT_FOUND), PLAIN, NONE) \
+    X(refusal_section, SHORT | S(NOT_FOUND), PLAIN, NONE) \
+    X(read_url, SHORT | S(NOT_UTF8) | S(NO_URL), PLAIN, NONE) \
+    X(version, 0, PLAIN, NONE) \
+    X(next_pair, PAIRS | S(NO_PAIR), PLAIN, NONE) \
+    X(next_pair_decoded, SHORT | PAIRS | S(NO_PAIR) | S(BAD_ESCAPE), PLAIN, NONE) \
+    X(read, PAIRS, PLAIN, NONE) \
+    X(read_decoded, SHORT | PAIRS | S(BAD_ESCAPE), PLAIN, NONE) \
+    X(read_pairs, SHORT, PLAIN, NONE) \
+    X(keys_new, S(KEY_TOO_SHORT), PLAIN, KEYS) \
+    X(keys_free, 0, PLAIN, NONE) \
+    X(sign, SHORT | S(NO_KEYS) | S(NOT_UTF8), ON(KEYS), NONE) \
+    X(verify, SHORT | S(NO_KEYS) | S(NOT_UTF8) | S(NOT_SIGNED), ON(KEYS), NONE) \
+    X(seal, SHORT | S(NO_KEYS) | S(NOT_UTF8) | S(BAD_NONCE) | S(TOO_LONG), ON(KEYS), NONE) \
+    X(open, SHORT | S(NO_KEYS) | S(NOT_UTF8) | S(NOT_SEALED), ON(KEYS), NONE) \
+    X(token_make, SHORT | READS | S(BAD_NONCE) | S(NO_KEYS) | S(TOO_LONG), KEYS, S(BAD_NONCE), NONE, 0, NONE) \
+    X(token_read, SHORT | READS | S(NO_KEYS) | S(TOO_LONG) | S(NOT_SEALED), ON(KEYS), NONE) \
+    X(jar_new, 0, PLAIN, JAR) \
+    X(jar_free, 0, PLAIN, NONE) \
+    X(jar_add_originals, S(NO_JAR), ON(JAR), NONE) \
+    X(jar_add, S(NO_JAR) | PAIRS | S(BAD_ESCAPE) | S(INVALID_VALUE), ON(JAR), NONE) \
+    X(jar_remove, S(NO_JAR) | READS, ON(JAR), NONE) \
+    X(jar_remove_scoped, S(NO_JAR) | READS | S(INVALID_VALUE), ON(JAR), NONE) \
+    X(jar_get, SHORT | S(NO_JAR) | S(NOT_UTF8) | S(NOT_FOUND), ON(JAR), NONE) \
+    X(jar_delta, SHORT | S(NO_JAR), ON(JAR), NONE) \
+    X(jar_cookies, SHORT | S(NO_JAR), ON(JAR), NONE) \
+    X(sessions_new, S(KEY_TOO_SHORT) | PAIRS | S(BAD_ESCAPE) | S(INVALID_VALUE), PLAIN, SITE) \
+    X(sessions_free, 0, PLAIN, NONE) \
+    X(session_end, SHORT | S(NO_SESSIONS) | S(NO_DATE), ON(SITE), NONE) \
+    X(opened_new, S(NO_SESSIONS) | S(NO_DATE), ON(SITE), OPENED) \
+    X(opened_free, 0, PLAIN, NONE) \
+    X(opened_ids, SHORT | S(NO_SESSION), ON(OPENED), NONE) \
+    X(opened_take, S(BAD_IDS) | S(NO_SESSION), PLAIN, SESSION) \
+    X(session_open, S(NO_SESSIONS) | S(NO_DATE) | S(NO_SESSION), ON(SITE), SESSION) \
+    X(session_start, S(BAD_NONCE) | S(NO_SESSIONS) | S(NO_DATE), SITE, S(BAD_NONCE), NONE, 0, SESSION) \
+    X(session_free, 0, PLAIN, NONE) \
+    X(session_describe, S(NO_SESSION), ON(SESSION), NONE) \
+    X(session_given, S(NO_SESSION) | S(NOT_FOUND), ON(SESSION), NONE) \
+    X(session_replace, S(NO_DATE) | S(NO_SESSION) | S(NOT_FOUND) | S(GONE), SESSION, S(NO_DATE), NONE, 0, NONE) \
+    X(session_log_out, S(NO_DATE) | S(NO_SESSION) | S(NOT_FOUND) | S(GONE), SESSION, S(NO_DATE), NONE, 0, NONE) \
+    X(session_set_generation, S(NO_SESSION), ON(SESSION), NONE) \
+    X(session_is_since, 0, PLAIN, NONE) \
+    X(session_get, SHORT | S(NO_SESSION) | S(NOT_UTF8) | S(NOT_FOUND), ON(SESSION), NONE) \
+    X(session_set, S(NO_SESSION) | S(NOT_UTF8), ON(SESSION), NONE) \
+    X(session_remove, S(NO_SESSION) | S(NOT_UTF8), ON(SESSION), NONE) \
+    X(session_texts, SHORT | S(NO_SESSION), ON(SESSION), NONE) \
+    X(session_list, SHORT | S(NO_SESSION), ON(SESSION), NONE) \
+    X(session_set_texts, S(NO_SESSION), ON(SESSION), NONE) \
+    X(session_renew, S(BAD_NONCE) | S(NO_SESSIONS) | S(NO_DATE) | S(NO_SESSION), \
+      SITE, S(BAD_NONCE), SESSION, S(BAD_NONCE) | S(NO_SESSIONS) | S(NO_DATE), NONE) \
+    X(session_must_save, S(NO_SESSIONS) | S(NO_DATE) | S(NO_SESSION), \
+      SITE, 0, SESSION, S(NO_SESSIONS) | S(NO_DATE), NONE) \
+    X(session_save, SHORT | S(BAD_NONCE) | S(BAD_ATTRIBUTE) | S(NO_SESSIONS) | S(NO_DATE) | S(NO_SESSION) | S(BAD_PREFIX) \
+                        | S(OVER) | S(TOO_LONG) | S(TOO_LARGE) | S(REPLACES), \
+      SITE, S(BAD_NONCE) | S(BAD_ATTRIBUTE), \
+      SESSION, S(BAD_NONCE) | S(BAD_ATTRIBUTE) | S(NO_SESSIONS) | S(NO_DATE), NONE) \
+    X(suffixes_new, 0, PLAIN, LIST) \
+    X(suffixes_free, 0, PLAIN, NONE) \
+    X(explain, SHORT | S(NO_SUFFIXES) | S(NO_DATE), ON(LIST), NONE) \
+    X(explain_lines, SHORT | S(NO_SUFFIXES) | READS | S(NO_URL), ON(LIST), NONE) \
+    X(agent_new, 0, PLAIN, AGENT) \
+    X(agent_free, 0, PLAIN, NONE) \
+    X(agent_read, S(NO_SUFFIXES) | S(NO_AGENT) | READS, LIST, 0, AGENT, S(NO_SUFFIXES), NONE) \
+    X(agent_header, SHORT | S(NO_AGENT) | READS, ON(AGENT), NONE) \
+    X(agent_retrieve, SHORT | S(NO_AGENT) | READS, ON(AGENT), NONE) \
+    X(agent_evict, S(NO_AGENT) | S(NO_DATE), ON(AGENT), NONE) \
+    X(agent_trim, S(NO_SUFFIXES) | S(NO_AGENT) | S(NO_DATE), LIST, 0, AGENT, S(NO_SUFFIXES), NONE) \
+    X(agent_remove, S(NO_AGENT) | S(NOT_FOUND), ON(AGENT), NONE) \
+    X(agent_clear, S(NO_AGENT), ON(AGENT), NONE) \
+    X(agent_count, S(NO_AGENT), ON(AGENT), NONE) \
+    X(agent_cookie, SHORT | S(NO_AGENT) | S(NO_DATE) | S(NOT_FOUND), ON(AGENT), NONE) \
+    X(agent_obstacles, S(NO_AGENT) | READS | S(NOT_FOUND), ON(AGENT), NONE) \
+    X(agent_save, SHORT | S(NO_AGENT) | S(BAD_ATTRIBUTE) | S(NO_DATE), ON(AGENT), NONE) \
+    X(agent_load, S(NO_SUFFIXES) | S(NO_AGENT) | S(BAD_ATTRIBUTE) | S(NO_DATE), LIST, 0, AGENT, S(NO_SUFFIXES), NONE)
 
-#define NUMBER(name, statuses) name##_call,
-#define NAME(name, statuses) #name,
-#define MASK(name, statuses) statuses,
+typedef struct call {
+    const char *name;
+    uint64_t statuses;
+    kind on;
+    uint64_t first;
+    kind on_too;
+    uint64_t first_too;
+    kind made;
+} call;
+
+#define NUMBER(name, ...) name##_call,
+#define FACTS(name, ...) {#name, __VA_ARGS__},
 enum { CALLS(NUMBER) COUNT };
-static const char *const NAMES[] = {CALLS(NAME)};
-static const uint64_t MASKS[] = {CALLS(MASK)};
+static const call FACTS_OF[] = {CALLS(FACTS)};
 
 static uint64_t draw(drawing *d) {
     uint64_t z = (d->state += 0x9e3779b97f4a7c15);
@@ -133,10 +154,12 @@ static uint64_t draw(drawing *d) {
 
 static size_t below(drawing *d, size_t most) { return (size_t)(draw(d) % most); }
 static bool one_in(drawing *d, size_t most) { return below(d, most) == 0; }
+/* One below a bound, or in a few draws any. */
+static size_t any_below(drawing *d, size_t most) { return one_in(d, 9) ? (size_t)draw(d) : below(d, most); }
 
 static void fault(drawing *d, int call, const char *what) {
     if (d->faults++ < 20)
-        fprintf(stderr, "thread %zu, call %zu, cookie_%s: %s\n", d->number, d->count, NAMES[call], what);
+        fprintf(stderr, "thread %zu, call %zu, cookie_%s: %s\n", d->number, d->count, FACTS_OF[call].name, what);
 }
 
 /* Memory of that length: the region's first bytes, or its last ones; or a block of its own. */
@@ -162,10 +185,9 @@ static text text_of(drawing *d, const void *bytes, size_t length) {
     return (text){length == 0 && one_in(d, 2) ? NULL : at, length};
 }
 
-/* The same, but the pointer isn't null. */
-static text text_there(drawing *d, const void *bytes, size_t length) {
+/* The text, whose pointer isn't null. */
+static text there(text made) {
     static const uint8_t nothing = 0;
-    text made = text_of(d, bytes, length);
     return made.bytes == NULL ? (text){&nothing, 0} : made;
 }
 
@@ -229,7 +251,9 @@ static const char *const SAVED[] = {
 
 #define ONE_OF(d, list) list[below(d, sizeof list / sizeof *list)]
 
-typedef enum kind { A_NAME, A_VALUE, A_PATH, A_COOKIE, A_HEADER, A_FORM, A_DATE, A_HOST, A_URL, A_LIST, A_PASTE, A_RUN, A_FILE } kind;
+typedef enum sort {
+    A_NAME, A_VALUE, A_PATH, A_COOKIE, A_HEADER, A_FORM, A_DATE, A_HOST, A_URL, A_LIST, A_PASTE, A_RUN, A_FILE
+} sort;
 
 static void append(char *made, const char *piece) { strncat(made, piece, LONGEST - 1 - strlen(made)); }
 
@@ -240,7 +264,7 @@ static void append_pair(drawing *d, char *made) {
 }
 
 /* A text of that kind; of one in twenty any bytes, and of one in two hundred a long one. */
-static text draw_text(drawing *d, kind it) {
+static text draw_text(drawing *d, sort it) {
     static _Thread_local char made[LONGEST];
     made[0] = '\0';
     if (one_in(d, 20)) {
@@ -302,12 +326,12 @@ static text draw_text(drawing *d, kind it) {
         break;
     default:
         for (size_t left = below(d, 5); left > 0; left--) {
-            append(made, it == A_HEADER && one_in(d, 3) ? ONE_OF(d, d->kept) : "");
+            append(made, it == A_HEADER && one_in(d, 2) ? ONE_OF(d, d->kept) : "");
             append(made, it == A_FORM ? "&" : "; ");
             append_pair(d, made);
         }
     }
-    if (one_in(d, 200))
+    if (one_in(d, 100))
         for (size_t left = below(d, 500); left > 0; left--)
             append(made, one_in(d, 50) ? "%20" : "xxxxxxxxxx");
     return text_of(d, made, strlen(made));
@@ -323,12 +347,11 @@ static text draw_bytes(drawing *d, size_t length) {
 }
 
 /* One to three keys of the same three. */
-static text draw_keys(drawing *d, bool is_there) {
+static text draw_keys(drawing *d) {
     uint8_t made[3 * 64];
     for (size_t i = 0; i < 3; i++)
         memset(made + 64 * i, 1 + (int)below(d, 3), 64);
-    size_t length = one_in(d, 8) ? below(d, sizeof made) : 64 * (1 + below(d, 3));
-    return is_there ? text_there(d, made, length) : text_of(d, made, length);
+    return text_of(d, made, one_in(d, 8) ? below(d, sizeof made) : 64 * (1 + below(d, 3)));
 }
 
 static uint64_t draw_now(drawing *d) {
@@ -337,31 +360,31 @@ static uint64_t draw_now(drawing *d) {
 }
 
 static cookie_request draw_request(drawing *d) {
-    text host = draw_text(d, A_HOST), path = draw_text(d, A_PATH);
-    static const uint8_t nothing = 0;
-    return (cookie_request){host.bytes ? host.bytes : &nothing,
-                            host.length,
-                            path.bytes ? path.bytes : &nothing,
-                            path.length,
-                            one_in(d, 4),
-                            one_in(d, 2),
-                            !one_in(d, 4),
-                            one_in(d, 2),
-                            one_in(d, 2)};
+    text host = there(draw_text(d, A_HOST)), path = there(draw_text(d, A_PATH));
+    return (cookie_request){host.bytes,   host.length,     path.bytes,   path.length, one_in(d, 4),
+                            one_in(d, 2), !one_in(d, 4), one_in(d, 2), one_in(d, 2)};
 }
 
 static cookie_attributes draw_attributes(drawing *d) {
-    uint32_t flags[8];
+    uint32_t n[8];
     for (size_t i = 0; i < 8; i++)
-        flags[i] = one_in(d, 30) ? (uint32_t)draw(d) : (uint32_t)below(d, i < 4 ? 3 : 2);
+        n[i] = one_in(d, 30) ? (uint32_t)draw(d) : (uint32_t)below(d, i < 4 ? 3 : 2);
     cookie_moment date = {COOKIE_NO_DATE,       (int16_t)(one_in(d, 5) ? draw(d) : 2015),
                           (int8_t)below(d, 14), (int8_t)below(d, 33),
                           (int8_t)below(d, 25), (int8_t)below(d, 61),
                           (int8_t)below(d, 61)};
-    return (cookie_attributes){flags[0], flags[1], flags[2],
-                               flags[3], flags[4], flags[5],
-                               flags[6], flags[7], (int64_t)draw(d) >> below(d, 64),
-                               date};
+    int64_t age = (int64_t)draw(d) >> below(d, 64);
+    return (cookie_attributes){n[0], n[1], n[2], n[3], n[4], n[5], n[6], n[7], age, date};
+}
+
+static cookie_session_settings draw_site(drawing *d) {
+    static const char *const sites[] = {"session=; Path=/",
+                                        "__Host-s=; Path=/; Secure; HttpOnly; SameSite=Lax",
+                                        "s=; Domain=example.com", "__Host-s=", "=", "s", "s\xff=", "s%ff=", "s=; Path=/\x01"};
+    const char *chosen = ONE_OF(d, sites);
+    text keys = there(draw_keys(d)), cookie = there(text_of(d, chosen, strlen(chosen)));
+    return (cookie_session_settings){keys.bytes,    keys.length,          cookie.bytes,
+                                     cookie.length, (uint32_t)(one_in(d, 9) ? draw(d) : 600), one_in(d, 9) ? 0 : 300};
 }
 
 /* A buffer of that length, filled, with what is around it. */
@@ -372,17 +395,12 @@ static void take_room(drawing *d, size_t length) {
         memset(d->out - d->margin_before, 0xa5, d->margin_before + length + d->margin_after);
 }
 
-static void draw_room(drawing *d) {
-    static const size_t lengths[] = {0, 1, 43, 44, 300, 5000};
-    take_room(d, one_in(d, 2) ? ONE_OF(d, lengths) : below(d, 80));
-}
-
 /* Looks at a status, and at the rest of a buffer of which `written` bytes may be others. */
-static void look(drawing *d, int call, uint32_t status, size_t written, bool was_starved) {
+static void look(drawing *d, int call, uint32_t status, size_t written) {
     refuse(0);
     d->met[call][status < STATUSES ? status : 0]++;
-    bool is_known = status == COOKIE_DONE || (status < STATUSES && (MASKS[call] >> status & 1) == 1);
-    if (!is_known && !(status == COOKIE_OUT_OF_MEMORY && was_starved))
+    bool is_known = status == COOKIE_DONE || (status < STATUSES && (FACTS_OF[call].statuses >> status & 1) == 1);
+    if (!is_known && !(status == COOKIE_OUT_OF_MEMORY && d->was_starved))
         fault(d, call, "a status that the header doesn't have");
     if (written > d->length) {
         fault(d, call, "more was written than the buffer has");
@@ -396,301 +414,95 @@ static void look(drawing *d, int call, uint32_t status, size_t written, bool was
         }
 }
 
-/* Whether a handle with nothing, and only that, is refused as having nothing, if no other refusal comes first. */
-static void look_at_handle(drawing *d, int call, uint32_t status, bool has, uint32_t refusal, uint64_t first) {
-    if (has ? status == refusal : status != refusal && (first >> status & 1) == 0)
-        fault(d, call, has ? "a handle with something is refused" : "a handle with nothing is taken");
+/* Begins a call. In one of 32 one of its next requests for memory is refused. */
+static void begin(drawing *d, size_t length) {
+    take_room(d, length);
+    refuse(one_in(d, 32) ? 1 + below(d, 12) : 0);
+    d->was_starved = refused_at > 0;
 }
 
-static bool is_within(cookie_span at, size_t length) { return at.start <= length && at.length <= length - at.start; }
-
-/* Makes a call that returns a status. */
-#define STATUS(it, expression) \
-    do { \
-        take_room(d, 0); \
-        starved = starve(d); \
-        status = (expression); \
-        look(d, it##_call, status, 0, starved); \
-    } while (0)
-
-/* Makes a call that writes a text, and again with a buffer of the length that it needs. */
-#define WRITES(it, expression) \
-    do { \
-        draw_room(d); \
-        starved = starve(d); \
-        answer = (expression); \
-        status = answer.status; \
-        look(d, it##_call, status, status == COOKIE_DONE ? answer.length : 0, starved); \
-        size_t asked = answer.length; \
-        if (status == COOKIE_BUFFER_TOO_SHORT && asked <= d->length) \
-            fault(d, it##_call, "a buffer that fits is too short"); \
-        if (status == COOKIE_BUFFER_TOO_SHORT && asked <= ROOM) { \
-            take_room(d, asked); \
-            answer = (expression); \
-            look(d, it##_call, answer.status, answer.length, false); \
-            if (answer.status != COOKIE_DONE || answer.length != asked) \
-                fault(d, it##_call, "a buffer of the length that it needs doesn't fit"); \
-        } \
-    } while (0)
-
-/* Makes a call that explains, and looks at its spans. */
-#define EXPLAINS(it, expression) \
-    do { \
-        draw_room(d); \
-        starved = starve(d); \
-        cookie_explanation why = (expression); \
-        status = why.status; \
-        size_t end = why.section.start + why.section.length + why.stored.path.start + why.stored.path.length; \
-        look(d, it##_call, status, status == COOKIE_DONE ? end : 0, starved); \
-        const cookie_span spans[] =   {why.sentence,     why.section,       why.stored.name, \
-                                       why.stored.value, why.stored.domain, why.stored.path}; \
-        for (size_t i = 0; i < 6; i++) \
-            if (!is_within(spans[i], status == COOKIE_DONE ? d->length : SIZE_MAX)) \
-                fault(d, it##_call, "a span isn't in the buffer"); \
-        if (status == COOKIE_BUFFER_TOO_SHORT && end <= d->length) \
-            fault(d, it##_call, "a buffer that fits is too short"); \
-        if (status == COOKIE_BUFFER_TOO_SHORT && end <= ROOM) { \
-            take_room(d, end); \
-            look(d, it##_call, (expression).status, end, false); \
-        } \
-    } while (0)
-
-/* Has one of the next requests for memory refused, in one call of 32. */
-static bool starve(drawing *d) {
-    refuse(one_in(d, 32) ? 1 + below(d, 12) : 0);
-    return refused_at > 0;
+static size_t draw_room(drawing *d) {
+    static const size_t lengths[] = {0, 1, 43, 44, 300, 5000};
+    return one_in(d, 2) ? ONE_OF(d, lengths) : below(d, 80);
 }
 
 #define IN(text) text.bytes, text.length
+#define OUT d->out, d->length
 
-static void play_keys(drawing *d, int call) {
-    size_t i = below(d, PAIR);
-    cookie_keys *keys = &d->keys[i];
-    bool *has = &d->has_keys[i];
-    cookie_answer answer;
-    uint32_t status;
-    bool starved;
-    text name = draw_text(d, A_NAME), value = draw_text(d, A_VALUE), nonce = draw_bytes(d, 12);
-    switch (call) {
-    case keys_new_call: {
-        text made = draw_keys(d, false);
-        STATUS(keys_new, cookie_keys_new(IN(made), keys));
-        *has |= status == COOKIE_DONE;
-        return;
-    }
-    case keys_free_call:
-        cookie_keys_free(keys);
-        *has = false;
-        d->met[call][0]++;
-        return;
-    case sign_call:
-    case verify_call: {
-        WRITES(sign, cookie_sign(keys, IN(name), IN(value), d->out, d->length));
-        text made = answer.status == COOKIE_DONE && !one_in(d, 4) ? text_of(d, d->out, answer.length) : value;
-        WRITES(verify, cookie_verify(keys, IN(name), IN(made), d->out, d->length));
+/* The case of a call that returns a status. */
+#define TELLS(it, expression) \
+    case it##_call: \
+        begin(d, 0); \
+        status = (expression); \
+        look(d, call, status, 0); \
         break;
-    }
-    case seal_call:
-    case open_call: {
-        WRITES(seal, cookie_seal(keys, IN(nonce), IN(name), IN(value), d->out, d->length));
-        text made = answer.status == COOKIE_DONE && !one_in(d, 4) ? text_of(d, d->out, answer.length) : value;
-        WRITES(open, cookie_open(keys, IN(name), IN(made), d->out, d->length));
+
+/* The case of a call that returns nothing. */
+#define ENDS(it, expression) \
+    case it##_call: \
+        expression; \
+        d->met[call][0]++; \
+        return COOKIE_DONE;
+
+/* The case of a call that writes a text. It is made again with a buffer of the length that it needs. */
+#define WRITES(it, expression) \
+    case it##_call: \
+        begin(d, draw_room(d)); \
+        answer = (expression); \
+        status = answer.status; \
+        look(d, call, status, status == COOKIE_DONE ? answer.length : 0); \
+        if (status == COOKIE_BUFFER_TOO_SHORT && answer.length <= d->length) \
+            fault(d, call, "a buffer that fits is too short"); \
+        if (status == COOKIE_BUFFER_TOO_SHORT && answer.length <= ROOM) { \
+            size_t needed = answer.length; \
+            d->was_starved = false; \
+            take_room(d, needed); \
+            answer = (expression); \
+            look(d, call, answer.status, answer.length); \
+            if (answer.status != COOKIE_DONE || answer.length != needed) \
+                fault(d, call, "a buffer of the length that it needs doesn't fit"); \
+        } \
         break;
-    }
-    default: {
-        text purpose = text_there(d, IN(name));
-        uint64_t now = draw_now(d), later = one_in(d, 4) ? draw_now(d) : now + below(d, 90);
-        cookie_token_settings settings = {IN(purpose), one_in(d, 9) ? (uint32_t)draw(d) : 60};
-        WRITES(token_make, cookie_token_make(keys, &settings, IN(value), IN(nonce), now, d->out, d->length));
-        look_at_handle(d, token_make_call, status, *has, COOKIE_NO_KEYS, S(BAD_NONCE));
-        text made = answer.status == COOKIE_DONE && !one_in(d, 4) ? text_of(d, d->out, answer.length) : value;
-        WRITES(token_read, of_token(cookie_token_read(keys, &settings, IN(made), later, d->out, d->length)));
-    }
-    }
-    look_at_handle(d, call, status, *has, COOKIE_NO_KEYS, 0);
+
+static bool is_within(cookie_span at, size_t length) { return at.start <= length && at.length <= length - at.start; }
+
+/* What a call has told, if its parts are in what they may be. */
+static cookie_explanation looked_at(drawing *d, int call, cookie_explanation why) {
+    const cookie_span spans[] = {why.sentence,     why.section,       why.stored.name,
+                                 why.stored.value, why.stored.domain, why.stored.path};
+    for (size_t i = 0; i < 6; i++)
+        if (!is_within(spans[i], why.status == COOKIE_DONE ? d->length : SIZE_MAX))
+            fault(d, call, "a span isn't in the buffer");
+    return why;
 }
 
-static void play_plain(drawing *d, int call) {
-    cookie_answer answer;
-    uint32_t status;
-    bool starved;
-    switch (call) {
-    case derive_key_call: {
-        text master = draw_bytes(d, 32);
-        WRITES(derive_key, cookie_derive_key(IN(master), d->out, d->length));
-        break;
-    }
-    case read_date_call: {
-        text date = draw_text(d, A_DATE);
-        STATUS(read_date, cookie_read_date(IN(date)).status);
-        break;
-    }
-    case print_date_call: {
-        cookie_moment it = draw_attributes(d).expires;
-        WRITES(print_date,
-               cookie_print_date(it.year, it.month, it.day, it.hour, it.minute, it.second, d->out, d->length));
-        break;
-    }
-    case run_call: {
-        text date = draw_text(d, A_DATE), input = draw_text(d, A_RUN);
-        WRITES(run, cookie_run(draw(d), 2, IN(date), IN(input), d->out, d->length));
-        break;
-    }
-    case print_call: {
-        text name = draw_text(d, A_NAME), value = draw_text(d, A_VALUE);
-        text path = draw_text(d, A_PATH), domain = draw_text(d, A_HOST);
-        cookie_attributes it = draw_attributes(d);
-        bool is_escaped = one_in(d, 2);
-        WRITES(print, cookie_print(IN(name), IN(value), IN(path), IN(domain), &it, is_escaped, d->out, d->length));
-        break;
-    }
-    case refusal_sentence_call: {
-        uint32_t number = (uint32_t)(one_in(d, 9) ? draw(d) : below(d, 16));
-        WRITES(refusal_sentence, cookie_refusal_sentence(number, d->out, d->length));
-        WRITES(refusal_section, cookie_refusal_section(number, d->out, d->length));
-        break;
-    }
-    case read_url_call: {
-        text url = draw_text(d, A_URL);
-        WRITES(read_url, of_url(cookie_read_url(IN(url), d->out, d->length)));
-        break;
-    }
-    default:
-        STATUS(version, cookie_version() == COOKIE_VERSION ? COOKIE_DONE : COOKIE_BAD_LINE);
-    }
+/* How an agent is saved: which cookies are left out is one of the cookies that it has. */
+static cookie_answer saved(drawing *d, cookie_agent_saving saving) {
+    if (saving.left_out == 0 && saving.first_left_out != 0)
+        fault(d, agent_save_call, "none is left out, and one is named");
+    return of_saving(saving);
 }
 
-static void play_reading(drawing *d, int call) {
-    uint32_t status;
-    bool starved;
-    text from = draw_text(d, call == next_pair_call || call == next_pair_decoded_call ? A_HEADER : A_COOKIE);
-    size_t at = one_in(d, 4) ? (size_t)draw(d) >> below(d, 64) : below(d, from.length + 2), next = at;
-    bool is_decoded = call == next_pair_decoded_call || call == read_decoded_call;
-    draw_room(d);
-    if (call == next_pair_call || call == next_pair_decoded_call) {
-        starved = starve(d);
-        cookie_pair pair =
-            is_decoded ? cookie_next_pair_decoded(IN(from), at, d->out, d->length) : cookie_next_pair(IN(from), at);
-        status = pair.status;
-        bool is_there = status <= COOKIE_BUFFER_TOO_SHORT;
-        look(d, call, status, is_decoded && status == COOKIE_DONE ? pair.value.start + pair.value.length : 0, starved);
-        size_t bound = !is_decoded ? from.length : status == COOKIE_DONE ? d->length : SIZE_MAX;
-        if (!is_within(pair.name, is_there ? bound : 0) || !is_within(pair.value, is_there ? bound : 0))
-            fault(d, call, "a span isn't in the text");
-        next = pair.next;
-        if (status == COOKIE_NO_PAIR ? next != 0
-                                     : status != COOKIE_OUT_OF_MEMORY && (next <= at || next > from.length + 1))
-            fault(d, call, "it goes on elsewhere");
-        return;
+/* How a text is loaded. The bad lines are some that it has, in their order, and no more are told than have room. */
+static uint32_t load(drawing *d, cookie_agent *agent, cookie_suffixes *list, uint32_t form, text from, uint64_t now) {
+    size_t bad[3] = {0}, room = below(d, 3), lines = 1, last = 0;
+    size_t most[3] = {below(d, 9), below(d, 20), below(d, 40)};
+    for (size_t i = 0; i < 3; i++)
+        most[i] = one_in(d, 4) ? most[i] : SIZE_MAX;
+    cookie_agent_loading loading = cookie_agent_load(agent, list, form, IN(from), most[0], most[1], most[2], now, bad, room);
+    if (loading.status == COOKIE_DONE && cookie_agent_count(agent).length > most[2])
+        fault(d, agent_load_call, "more cookies than the limit");
+    for (size_t i = 0; i < from.length; i++)
+        lines += from.bytes[i] == '\n';
+    for (size_t i = 0; i < 3; i++) {
+        bool is_told = i < room && i < loading.bad_lines;
+        if (is_told ? bad[i] <= last : bad[i] != 0)
+            fault(d, agent_load_call, "a bad line in another place");
+        last = bad[i];
     }
-    starved = starve(d);
-    cookie_reading it = is_decoded ? cookie_read_decoded(IN(from), d->out, d->length) : cookie_read(IN(from));
-    status = it.status;
-    look(d, call, status, is_decoded && status == COOKIE_DONE ? it.value.start + it.value.length : 0, starved);
-    size_t bound = status > COOKIE_BUFFER_TOO_SHORT ? 0 : from.length;
-    size_t decoded = !is_decoded || bound == 0 ? bound : status == COOKIE_DONE ? d->length : SIZE_MAX;
-    if (!is_within(it.path, bound) || !is_within(it.domain, bound) || !is_within(it.name, decoded)
-        || !is_within(it.value, decoded))
-        fault(d, call, "a span isn't in the text");
-}
-
-static void play_pairs(drawing *d) {
-    static _Thread_local cookie_pair pairs[60];
-    text from = draw_text(d, A_HEADER);
-    size_t room = below(d, 61);
-    draw_room(d);
-    bool starved = starve(d);
-    cookie_pair_count read = cookie_read_pairs(IN(from), pairs, room, d->out, d->length);
-    look(d, read_pairs_call, read.status, read.status == COOKIE_DONE ? read.length : 0, starved);
-    bool has_room = read.count <= room && read.length <= d->length;
-    if (read.status <= COOKIE_BUFFER_TOO_SHORT && has_room != (read.status == COOKIE_DONE))
-        fault(d, read_pairs_call, "it has room and isn't written, or the other way round");
-    for (size_t i = 0; read.status == COOKIE_DONE && i < read.count; i++)
-        if (!is_within(pairs[i].name, read.length) || !is_within(pairs[i].value, read.length)
-            || pairs[i].next > from.length + 1 || (i > 0 && pairs[i].next <= pairs[i - 1].next))
-            fault(d, read_pairs_call, "a span isn't in the text");
-}
-
-static void play_jar(drawing *d, int call) {
-    size_t i = below(d, PAIR);
-    cookie_jar *jar = &d->jars[i];
-    bool *has = &d->has_jar[i];
-    cookie_answer answer;
-    uint32_t status;
-    bool starved;
-    text name = draw_text(d, A_NAME), date = draw_text(d, A_DATE);
-    switch (call) {
-    case jar_new_call:
-        STATUS(jar_new, cookie_jar_new(draw(d), draw(d), jar));
-        *has |= status == COOKIE_DONE;
-        return;
-    case jar_free_call:
-        cookie_jar_free(jar);
-        *has = false;
-        d->met[call][0]++;
-        return;
-    case jar_add_originals_call: {
-        text header = draw_text(d, A_HEADER);
-        STATUS(jar_add_originals, cookie_jar_add_originals(jar, IN(header)));
-        break;
-    }
-    case jar_add_call: {
-        text made = draw_text(d, A_COOKIE);
-        STATUS(jar_add, cookie_jar_add(jar, IN(made)));
-        break;
-    }
-    case jar_remove_call:
-        STATUS(jar_remove, cookie_jar_remove(jar, IN(date), IN(name)));
-        break;
-    case jar_remove_scoped_call: {
-        text path = draw_text(d, A_PATH), domain = draw_text(d, A_HOST);
-        STATUS(jar_remove_scoped, cookie_jar_remove_scoped(jar, IN(date), IN(name), IN(path), IN(domain)));
-        break;
-    }
-    case jar_get_call:
-        WRITES(jar_get, cookie_jar_get(jar, IN(name), d->out, d->length));
-        break;
-    case jar_delta_call:
-        WRITES(jar_delta, cookie_jar_delta(jar, d->out, d->length));
-        break;
-    default:
-        WRITES(jar_cookies, cookie_jar_cookies(jar, d->out, d->length));
-    }
-    look_at_handle(d, call, status, *has, COOKIE_NO_JAR, 0);
-}
-
-static void play_site(drawing *d, int call) {
-    size_t i = below(d, PAIR);
-    cookie_sessions *site = &d->sites[i];
-    bool *has = &d->has_site[i];
-    cookie_answer answer;
-    uint32_t status;
-    bool starved;
-    if (call == sessions_new_call) {
-        static const char *const sites[] = {"session=; Path=/",
-                                            "__Host-s=; Path=/; Secure; HttpOnly; SameSite=Lax",
-                                            "s=; Domain=example.com",
-                                            "__Host-s=",
-                                            "=",
-                                            "s",
-                                            "s\xff=",
-                                            "s%ff=",
-                                            "s=; Path=/\x01"};
-        const char *chosen = ONE_OF(d, sites);
-        text keys = draw_keys(d, true), cookie = text_there(d, chosen, strlen(chosen));
-        cookie_session_settings settings = {IN(keys), IN(cookie), one_in(d, 9) ? (uint32_t)draw(d) : 600,
-                                            one_in(d, 9) ? 0 : 300};
-        STATUS(sessions_new, cookie_sessions_new(&settings, site));
-        *has |= status == COOKIE_DONE;
-    } else if (call == sessions_free_call) {
-        cookie_sessions_free(site);
-        *has = false;
-        d->met[call][0]++;
-    } else {
-        uint64_t now = draw_now(d);
-        WRITES(session_end, cookie_session_end(site, now, d->out, d->length));
-        look_at_handle(d, call, status, *has, COOKIE_NO_SESSIONS, 0);
-    }
+    if (loading.bad_lines > lines || last > lines)
+        fault(d, agent_load_call, "a bad line that there isn't");
+    return loading.status;
 }
 
 /* Keeps the pair of a cookie that was saved, for headers. */
@@ -711,315 +523,260 @@ static text draw_revoked(drawing *d, cookie_opened *opened) {
     return told.status == COOKIE_DONE && one_in(d, 2) ? text_of(d, ids, told.length) : draw_bytes(d, 16 * below(d, 3));
 }
 
-static void play_opened(drawing *d, int call) {
-    size_t i = below(d, PAIR), j = below(d, PAIR);
-    cookie_opened *opened = &d->opened[i];
-    bool *has = &d->has_opened[i];
-    cookie_answer answer;
-    uint32_t status;
-    bool starved;
-    if (call == opened_new_call) {
-        text header = draw_text(d, A_HEADER);
-        STATUS(opened_new, cookie_opened_new(&d->sites[j], IN(header), draw_now(d), opened));
-        *has |= status == COOKIE_DONE;
-        look_at_handle(d, call, status, d->has_site[j], COOKIE_NO_SESSIONS, 0);
-    } else if (call == opened_ids_call) {
-        WRITES(opened_ids, cookie_opened_ids(opened, d->out, d->length));
-        look_at_handle(d, call, status, *has, COOKIE_NO_SESSION, 0);
-    } else if (call == opened_take_call) {
-        text revoked = draw_revoked(d, opened);
-        STATUS(opened_take, cookie_opened_take(opened, IN(revoked), &d->sessions[j]));
-        if (!*has && status == COOKIE_DONE)
-            fault(d, call, "a handle with nothing is taken");
-        d->has_session[j] |= status == COOKIE_DONE;
-        *has &= status != COOKIE_DONE;
+/* A call that reads a pair or a cookie. */
+static uint32_t read_one(drawing *d, int call) {
+    bool is_pair = call == next_pair_call || call == next_pair_decoded_call;
+    bool is_decoded = call == next_pair_decoded_call || call == read_decoded_call;
+    text from = draw_text(d, is_pair ? A_HEADER : A_COOKIE);
+    size_t at = one_in(d, 4) ? (size_t)draw(d) >> below(d, 64) : below(d, from.length + 2);
+    cookie_reading it = {0};
+    begin(d, draw_room(d));
+    if (is_pair) {
+        cookie_pair pair = is_decoded ? cookie_next_pair_decoded(IN(from), at, OUT) : cookie_next_pair(IN(from), at);
+        it.status = pair.status, it.name = pair.name, it.value = pair.value;
+        bool goes_on = pair.next > at && pair.next <= from.length + 1;
+        if (it.status == COOKIE_NO_PAIR ? pair.next != 0 : it.status != COOKIE_OUT_OF_MEMORY && !goes_on)
+            fault(d, call, "it goes on elsewhere");
     } else {
-        cookie_opened_free(opened);
-        *has = false;
-        d->met[call][0]++;
+        it = is_decoded ? cookie_read_decoded(IN(from), OUT) : cookie_read(IN(from));
     }
+    look(d, call, it.status, is_decoded && it.status == COOKIE_DONE ? of_reading(it).length : 0);
+    size_t bound = it.status > COOKIE_BUFFER_TOO_SHORT ? 0 : from.length, decoded = bound;
+    if (is_decoded && bound > 0)
+        decoded = it.status == COOKIE_DONE ? d->length : SIZE_MAX;
+    if (!is_within(it.path, bound) || !is_within(it.domain, bound) || !is_within(it.name, decoded)
+        || !is_within(it.value, decoded))
+        fault(d, call, "a span isn't in the text");
+    return it.status;
 }
 
-static void play_session(drawing *d, int call) {
-    size_t i = below(d, PAIR), j = below(d, PAIR);
-    cookie_session *session = &d->sessions[i];
-    bool *has = &d->has_session[i];
+static uint32_t read_pairs(drawing *d, int call) {
+    static _Thread_local cookie_pair pairs[60];
+    text from = draw_text(d, A_HEADER);
+    size_t room = below(d, 61);
+    begin(d, draw_room(d));
+    cookie_pair_count read = cookie_read_pairs(IN(from), pairs, room, OUT);
+    look(d, call, read.status, read.status == COOKIE_DONE ? read.length : 0);
+    bool has_room = read.count <= room && read.length <= d->length;
+    if (read.status <= COOKIE_BUFFER_TOO_SHORT && has_room != (read.status == COOKIE_DONE))
+        fault(d, call, "it has room and isn't written, or the other way round");
+    for (size_t i = 0; read.status == COOKIE_DONE && i < read.count; i++)
+        if (!is_within(pairs[i].name, read.length) || !is_within(pairs[i].value, read.length)
+            || pairs[i].next > from.length + 1 || (i > 0 && pairs[i].next <= pairs[i - 1].next))
+            fault(d, call, "a span isn't in the text");
+    return read.status;
+}
+
+static uint32_t make_plain(drawing *d, int call) {
     cookie_answer answer;
-    uint32_t status;
-    uint64_t first = 0;
-    bool starved;
-    uint64_t now = draw_now(d);
-    text name = draw_text(d, A_NAME);
+    uint32_t status, number = (uint32_t)any_below(d, 16);
+    text name = draw_text(d, A_NAME), value = draw_text(d, A_VALUE), path = draw_text(d, A_PATH), host = draw_text(d, A_HOST);
+    text date = draw_text(d, A_DATE), input = draw_text(d, A_RUN), url = draw_text(d, A_URL), master = draw_bytes(d, 32);
+    cookie_attributes it = draw_attributes(d);
+    cookie_moment at = it.expires;
+    bool is_escaped = one_in(d, 2);
     switch (call) {
-    case session_open_call: {
-        text header = draw_text(d, A_HEADER);
-        STATUS(session_open, cookie_session_open(&d->sites[j], IN(header), now, session));
-        *has |= status == COOKIE_DONE;
-        look_at_handle(d, call, status, d->has_site[j], COOKIE_NO_SESSIONS, 0);
-        return;
+        WRITES(derive_key, cookie_derive_key(IN(master), OUT))
+        TELLS(read_date, cookie_read_date(IN(date)).status)
+        WRITES(print_date, cookie_print_date(at.year, at.month, at.day, at.hour, at.minute, at.second, OUT))
+        WRITES(run, cookie_run(number, 2, IN(date), IN(input), OUT))
+        WRITES(print, cookie_print(IN(name), IN(value), IN(path), IN(host), &it, is_escaped, OUT))
+        WRITES(refusal_sentence, cookie_refusal_sentence(number, OUT))
+        WRITES(refusal_section, cookie_refusal_section(number, OUT))
+        WRITES(read_url, of_url(cookie_read_url(IN(url), OUT)))
+        TELLS(version, cookie_version() == COOKIE_VERSION ? COOKIE_DONE : COOKIE_BAD_LINE)
+    case read_pairs_call:
+        return read_pairs(d, call);
+    default:
+        return read_one(d, call);
     }
-    case session_start_call: {
-        text id = draw_bytes(d, 16);
-        STATUS(session_start, cookie_session_start(&d->sites[j], IN(id), now, session));
-        *has |= status == COOKIE_DONE;
-        look_at_handle(d, call, status, d->has_site[j], COOKIE_NO_SESSIONS, S(BAD_NONCE));
-        return;
-    }
-    case session_free_call:
-        cookie_session_free(session);
-        *has = false;
-        d->met[call][0]++;
-        return;
-    case session_describe_call:
-        STATUS(session_describe, cookie_session_describe(session).status);
-        break;
-    case session_given_call:
-        STATUS(session_given, cookie_session_given(session).status);
-        break;
-    case session_replace_call:
-        STATUS(session_replace, cookie_session_replace(session, now, one_in(d, 3)));
-        first = S(NO_DATE);
-        break;
-    case session_log_out_call: {
-        bool had = *has;
-        STATUS(session_log_out, cookie_session_log_out(session, now, one_in(d, 3)));
-        *has &= status != COOKIE_DONE;
-        look_at_handle(d, call, status, had, COOKIE_NO_SESSION, S(NO_DATE));
-        return;
-    }
-    case session_set_generation_call:
-        STATUS(session_set_generation, cookie_session_set_generation(session, draw(d)));
-        break;
-    case session_is_since_call:
-        if (cookie_session_is_since(session, draw(d) >> below(d, 64)) && !*has)
-            fault(d, call, "a handle without a session keeps a generation");
-        d->met[call][0]++;
-        return;
-    case session_get_call:
-        WRITES(session_get, cookie_session_get(session, IN(name), d->out, d->length));
-        break;
-    case session_set_call: {
-        text value = draw_text(d, A_VALUE);
-        STATUS(session_set, cookie_session_set(session, IN(name), IN(value)));
-        break;
-    }
-    case session_remove_call:
-        STATUS(session_remove, cookie_session_remove(session, IN(name)));
-        break;
-    case session_texts_call:
-        WRITES(session_texts, cookie_session_texts(session, d->out, d->length));
-        break;
-    case session_list_call:
-        WRITES(session_list, cookie_session_list(session, d->out, d->length));
-        break;
-    case session_set_texts_call: {
-        text form = draw_text(d, A_FORM);
-        STATUS(session_set_texts, cookie_session_set_texts(session, IN(form)));
-        break;
-    }
-    case session_renew_call: {
-        text id = draw_bytes(d, 16);
-        STATUS(session_renew, cookie_session_renew(&d->sites[j], session, IN(id), now));
-        look_at_handle(d, call, status, d->has_site[j], COOKIE_NO_SESSIONS, S(BAD_NONCE));
-        first = S(BAD_NONCE) | S(NO_SESSIONS) | S(NO_DATE);
-        break;
-    }
-    case session_must_save_call: {
-        cookie_need need;
-        STATUS(session_must_save, (need = cookie_session_must_save(&d->sites[j], session, now)).status);
-        if (need.must_save && status != COOKIE_DONE)
-            fault(d, call, "a refused session must be saved");
-        look_at_handle(d, call, status, d->has_site[j], COOKIE_NO_SESSIONS, 0);
-        first = S(NO_SESSIONS) | S(NO_DATE);
-        break;
-    }
-    default: {
-        text nonce = draw_bytes(d, 12);
-        cookie_sessions *site = &d->sites[j];
-        uint32_t lasting = (uint32_t)(one_in(d, 20) ? draw(d) : below(d, 3));
-        WRITES(session_save, cookie_session_save(site, session, lasting, IN(nonce), now, d->out, d->length));
-        if (answer.status == COOKIE_DONE)
-            keep(d, answer.length);
-        look_at_handle(d, call, status, d->has_site[j], COOKIE_NO_SESSIONS, S(BAD_NONCE) | S(BAD_ATTRIBUTE));
-        first = S(BAD_NONCE) | S(BAD_ATTRIBUTE) | S(NO_SESSIONS) | S(NO_DATE);
-    }
-    }
-    look_at_handle(d, call, status, *has, COOKIE_NO_SESSION, first);
+    return status;
 }
 
-/* How an agent is saved: which cookies are left out is one of the cookies that it has. */
-static cookie_answer save(drawing *d, cookie_agent *agent, uint32_t form, uint64_t now) {
-    cookie_agent_saving saving = cookie_agent_save(agent, form, now, d->out, d->length);
-    if (saving.left_out == 0 && saving.first_left_out != 0)
-        fault(d, agent_save_call, "none is left out, and one is named");
-    return (cookie_answer){saving.status, saving.length};
-}
-
-/* How a text is loaded. The bad lines are some that it has, in their order, and no more are told than have room. */
-static uint32_t load(drawing *d, cookie_agent *agent, cookie_suffixes *list, uint32_t form, text from, uint64_t now) {
-    size_t bad[3] = {0}, room = below(d, 3), lines = 1, last = 0;
-    size_t per_domain = one_in(d, 4) ? below(d, 9) : SIZE_MAX, per_site = one_in(d, 4) ? below(d, 20) : SIZE_MAX;
-    size_t total = one_in(d, 4) ? below(d, 40) : SIZE_MAX;
-    cookie_agent_loading loading = cookie_agent_load(agent, list, form, IN(from), per_domain, per_site, total, now, bad, room);
-    if (loading.status == COOKIE_DONE && cookie_agent_count(agent).length > total)
-        fault(d, agent_load_call, "more cookies than the limit");
-    for (size_t i = 0; i < from.length; i++)
-        lines += from.bytes[i] == '\n';
-    for (size_t i = 0; i < 3; i++) {
-        bool is_told = i < room && i < loading.bad_lines;
-        if (is_told ? bad[i] <= last : bad[i] != 0)
-            fault(d, agent_load_call, "a bad line in another place");
-        last = bad[i];
-    }
-    if (loading.bad_lines > lines || last > lines)
-        fault(d, agent_load_call, "a bad line that there isn't");
-    return loading.status;
-}
-
-static void play_agent(drawing *d, int call) {
-    size_t i = below(d, PAIR), j = below(d, PAIR);
-    cookie_agent *agent = &d->agents[i];
-    cookie_suffixes *list = &d->lists[j];
-    bool *has = &d->has_agent[i];
+/* A call with keys. Of those that verify, open or read the text is mostly what was made just before. */
+static uint32_t make_with_keys(drawing *d, int call, cookie_keys *keys) {
     cookie_answer answer;
     uint32_t status;
-    uint64_t first = 0;
-    bool starved;
+    text name = draw_text(d, A_NAME), value = draw_text(d, A_VALUE), nonce = draw_bytes(d, 12), bytes = draw_keys(d);
+    text purpose = there(name);
+    uint64_t now = draw_now(d), later = one_in(d, 4) ? draw_now(d) : now + below(d, 90);
+    cookie_token_settings settings = {IN(purpose), one_in(d, 9) ? (uint32_t)draw(d) : 60};
+    uint8_t room[1000];
+    if (call == verify_call || call == open_call || call == token_read_call) {
+        answer = call == verify_call ? cookie_sign(keys, IN(name), IN(value), room, sizeof room)
+            : call == open_call     ? cookie_seal(keys, IN(nonce), IN(name), IN(value), room, sizeof room)
+                                    : cookie_token_make(keys, &settings, IN(value), IN(nonce), now, room, sizeof room);
+        value = answer.status == COOKIE_DONE && !one_in(d, 4) ? text_of(d, room, answer.length) : value;
+    }
+    switch (call) {
+        TELLS(keys_new, cookie_keys_new(IN(bytes), keys))
+        ENDS(keys_free, cookie_keys_free(keys))
+        WRITES(sign, cookie_sign(keys, IN(name), IN(value), OUT))
+        WRITES(verify, cookie_verify(keys, IN(name), IN(value), OUT))
+        WRITES(seal, cookie_seal(keys, IN(nonce), IN(name), IN(value), OUT))
+        WRITES(open, cookie_open(keys, IN(name), IN(value), OUT))
+        WRITES(token_make, cookie_token_make(keys, &settings, IN(value), IN(nonce), now, OUT))
+    default:
+        WRITES(token_read, of_token(cookie_token_read(keys, &settings, IN(value), later, OUT)))
+    }
+    return status;
+}
+
+static uint32_t make_with_jar(drawing *d, int call, cookie_jar *jar) {
+    cookie_answer answer;
+    uint32_t status;
+    text name = draw_text(d, A_NAME), date = draw_text(d, A_DATE), path = draw_text(d, A_PATH), host = draw_text(d, A_HOST);
+    text header = draw_text(d, A_HEADER), made = draw_text(d, A_COOKIE);
+    switch (call) {
+        TELLS(jar_new, cookie_jar_new(1, 2, jar))
+        ENDS(jar_free, cookie_jar_free(jar))
+        TELLS(jar_add_originals, cookie_jar_add_originals(jar, IN(header)))
+        TELLS(jar_add, cookie_jar_add(jar, IN(made)))
+        TELLS(jar_remove, cookie_jar_remove(jar, IN(date), IN(name)))
+        TELLS(jar_remove_scoped, cookie_jar_remove_scoped(jar, IN(date), IN(name), IN(path), IN(host)))
+        WRITES(jar_get, cookie_jar_get(jar, IN(name), OUT))
+        WRITES(jar_delta, cookie_jar_delta(jar, OUT))
+    default:
+        WRITES(jar_cookies, cookie_jar_cookies(jar, OUT))
+    }
+    return status;
+}
+
+static uint32_t make_with_session(drawing *d, int call, cookie_sessions *site, cookie_opened *opened,
+                                  cookie_session *session) {
+    cookie_answer answer;
+    cookie_need need = {COOKIE_DONE, false};
+    uint32_t status, lasting = (uint32_t)any_below(d, 3);
+    uint64_t now = draw_now(d), number = draw(d) >> below(d, 64);
+    text name = draw_text(d, A_NAME), value = draw_text(d, A_VALUE), form = draw_text(d, A_FORM);
+    text header = draw_text(d, A_HEADER), id = draw_bytes(d, 16), nonce = draw_bytes(d, 12), revoked = draw_revoked(d, opened);
+    cookie_session_settings settings = draw_site(d);
+    bool was_revoked = one_in(d, 3);
+    switch (call) {
+        TELLS(sessions_new, cookie_sessions_new(&settings, site))
+        ENDS(sessions_free, cookie_sessions_free(site))
+        WRITES(session_end, cookie_session_end(site, now, OUT))
+        TELLS(opened_new, cookie_opened_new(site, IN(header), now, opened))
+        ENDS(opened_free, cookie_opened_free(opened))
+        WRITES(opened_ids, cookie_opened_ids(opened, OUT))
+        TELLS(opened_take, cookie_opened_take(opened, IN(revoked), session))
+        TELLS(session_open, cookie_session_open(site, IN(header), now, session))
+        TELLS(session_start, cookie_session_start(site, IN(id), now, session))
+        ENDS(session_free, cookie_session_free(session))
+        TELLS(session_describe, cookie_session_describe(session).status)
+        TELLS(session_given, cookie_session_given(session).status)
+        TELLS(session_replace, cookie_session_replace(session, now, was_revoked))
+        TELLS(session_log_out, cookie_session_log_out(session, now, was_revoked))
+        TELLS(session_set_generation, cookie_session_set_generation(session, number))
+        ENDS(session_is_since, need.must_save = cookie_session_is_since(session, number);
+             if (need.must_save && cookie_session_describe(session).status != COOKIE_DONE)
+                 fault(d, call, "a handle without a session keeps a generation"))
+        WRITES(session_get, cookie_session_get(session, IN(name), OUT))
+        TELLS(session_set, cookie_session_set(session, IN(name), IN(value)))
+        TELLS(session_remove, cookie_session_remove(session, IN(name)))
+        WRITES(session_texts, cookie_session_texts(session, OUT))
+        WRITES(session_list, cookie_session_list(session, OUT))
+        TELLS(session_set_texts, cookie_session_set_texts(session, IN(form)))
+        TELLS(session_renew, cookie_session_renew(site, session, IN(id), now))
+        TELLS(session_must_save, (need = cookie_session_must_save(site, session, now)).status)
+    default:
+        WRITES(session_save, cookie_session_save(site, session, lasting, IN(nonce), now, OUT))
+    }
+    if (call == session_save_call && answer.status == COOKIE_DONE)
+        keep(d, answer.length);
+    if (need.must_save && status != COOKIE_DONE)
+        fault(d, call, "a refused session must be saved");
+    return status;
+}
+
+static uint32_t make_with_agent(drawing *d, int call, cookie_agent *agent, cookie_suffixes *list) {
+    cookie_answer answer;
+    cookie_agent_reading reading = {0};
+    cookie_obstacles why = {0};
+    uint32_t status, form = (uint32_t)(one_in(d, 20) ? draw(d) : below(d, 2));
+    size_t index = any_below(d, 12), most = any_below(d, 9), most_of_site = any_below(d, 20), total = below(d, 40);
     uint64_t now = draw_now(d);
     cookie_request request = draw_request(d);
-    text made = draw_text(d, A_COOKIE), name = draw_text(d, A_NAME), host = draw_text(d, A_HOST),
-         path = draw_text(d, A_PATH);
+    text made = draw_text(d, A_COOKIE), name = draw_text(d, A_NAME), host = draw_text(d, A_HOST), path = draw_text(d, A_PATH);
+    text rules = draw_text(d, A_LIST), url = draw_text(d, A_URL), paste = draw_text(d, A_PASTE), file = draw_text(d, A_FILE);
+    bool is_so = one_in(d, 2);
     switch (call) {
-    case suffixes_new_call: {
-        text rules = draw_text(d, A_LIST);
-        STATUS(suffixes_new, cookie_suffixes_new(IN(rules), list));
-        d->has_list[j] |= status == COOKIE_DONE;
-        return;
+        TELLS(suffixes_new, cookie_suffixes_new(IN(rules), list))
+        ENDS(suffixes_free, cookie_suffixes_free(list))
+        WRITES(explain, of_explanation(looked_at(d, call, cookie_explain(list, &request, IN(made), now, OUT))))
+        WRITES(explain_lines, cookie_explain_lines(list, IN(url), is_so, now, IN(paste), OUT))
+        TELLS(agent_new, cookie_agent_new(agent))
+        ENDS(agent_free, cookie_agent_free(agent))
+        TELLS(agent_read, (reading = cookie_agent_read(agent, list, &request, IN(made), now)).status)
+        WRITES(agent_header, cookie_agent_header(agent, &request, now, OUT))
+        WRITES(agent_retrieve, cookie_agent_retrieve(agent, &request, now, OUT))
+        TELLS(agent_evict, cookie_agent_evict(agent, now))
+        TELLS(agent_trim, cookie_agent_trim(agent, list, most, most_of_site, total, now))
+        TELLS(agent_remove, cookie_agent_remove(agent, IN(name), IN(host), is_so, IN(path)))
+        TELLS(agent_clear, cookie_agent_clear(agent, IN(host)))
+        TELLS(agent_count, cookie_agent_count(agent).status)
+        TELLS(agent_obstacles, (why = cookie_agent_obstacles(agent, index, &request, now)).status)
+        WRITES(agent_cookie, of_explanation(looked_at(d, call, cookie_agent_cookie(agent, index, now, OUT))))
+        TELLS(agent_load, load(d, agent, list, form, file, now))
+    default:
+        WRITES(agent_save, saved(d, cookie_agent_save(agent, form, now, OUT)))
     }
-    case suffixes_free_call:
-        cookie_suffixes_free(list);
-        d->has_list[j] = false;
-        d->met[call][0]++;
-        return;
-    case explain_call:
-        EXPLAINS(explain, cookie_explain(list, &request, IN(made), now, d->out, d->length));
-        look_at_handle(d, call, status, d->has_list[j], COOKIE_NO_SUFFIXES, 0);
-        return;
-    case explain_lines_call: {
-        text url = draw_text(d, A_URL), paste = draw_text(d, A_PASTE);
-        bool is_cross_site = one_in(d, 2);
-        WRITES(explain_lines, cookie_explain_lines(list, IN(url), is_cross_site, now, IN(paste), d->out, d->length));
-        look_at_handle(d, call, status, d->has_list[j], COOKIE_NO_SUFFIXES, 0);
-        return;
-    }
-    case agent_new_call:
-        STATUS(agent_new, cookie_agent_new(agent));
-        *has |= status == COOKIE_DONE;
-        return;
-    case agent_free_call:
-        cookie_agent_free(agent);
-        *has = false;
-        d->met[call][0]++;
-        return;
-    case agent_read_call: {
-        take_room(d, 0);
-        starved = starve(d);
-        cookie_agent_reading reading = cookie_agent_read(agent, list, &request, IN(made), now);
-        status = reading.status;
-        look(d, call, status, 0, starved);
-        if (reading.refusal > 14 || (status != COOKIE_DONE && reading.refusal != 0))
-            fault(d, call, "a step that there isn't");
-        look_at_handle(d, call, status, d->has_list[j], COOKIE_NO_SUFFIXES, 0);
-        first = S(NO_SUFFIXES);
-        break;
-    }
-    case agent_header_call:
-        WRITES(agent_header, cookie_agent_header(agent, &request, now, d->out, d->length));
-        break;
-    case agent_retrieve_call:
-        WRITES(agent_retrieve, cookie_agent_retrieve(agent, &request, now, d->out, d->length));
-        break;
-    case agent_evict_call:
-        STATUS(agent_evict, cookie_agent_evict(agent, now));
-        break;
-    case agent_trim_call:
-        STATUS(agent_trim, cookie_agent_trim(agent, list, (size_t)(one_in(d, 4) ? draw(d) : below(d, 9)),
-                                             (size_t)(one_in(d, 4) ? draw(d) : below(d, 20)), below(d, 40), now));
-        look_at_handle(d, call, status, d->has_list[j], COOKIE_NO_SUFFIXES, 0);
-        first = S(NO_SUFFIXES);
-        break;
-    case agent_remove_call:
-        STATUS(agent_remove, cookie_agent_remove(agent, IN(name), IN(host), one_in(d, 2), IN(path)));
-        break;
-    case agent_save_call: {
-        uint32_t form = (uint32_t)below(d, one_in(d, 20) ? 9 : 2);
-        WRITES(agent_save, save(d, agent, form, now));
-        break;
-    }
-    case agent_load_call: {
-        uint32_t form = (uint32_t)below(d, one_in(d, 20) ? 9 : 2);
-        text file = draw_text(d, A_FILE);
-        STATUS(agent_load, load(d, agent, list, form, file, now));
-        look_at_handle(d, call, status, d->has_list[j], COOKIE_NO_SUFFIXES, 0);
-        first = S(NO_SUFFIXES);
-        break;
-    }
-    case agent_count_call:
-        STATUS(agent_count, cookie_agent_count(agent).status);
-        break;
-    case agent_obstacles_call: {
-        take_room(d, 0);
-        starved = starve(d);
-        cookie_obstacles why = cookie_agent_obstacles(agent, one_in(d, 9) ? (size_t)draw(d) : below(d, 12), &request, now);
-        status = why.status;
-        look(d, call, status, 0, starved);
-        if (why.obstacles > 31 || (status != COOKIE_DONE && why.obstacles != 0))
-            fault(d, call, "an obstacle that there isn't");
-        break;
-    }
-    case agent_clear_call:
-        STATUS(agent_clear, cookie_agent_clear(agent, IN(host)));
-        break;
-    default: {
-        size_t index = one_in(d, 9) ? (size_t)draw(d) : below(d, 12);
-        EXPLAINS(agent_cookie, cookie_agent_cookie(agent, index, now, d->out, d->length));
-    }
-    }
-    look_at_handle(d, call, status, *has, COOKIE_NO_AGENT, first);
+    if (reading.refusal > 14 || (status != COOKIE_DONE && reading.refusal != 0))
+        fault(d, call, "a step that there isn't");
+    if (why.obstacles > 31 || (status != COOKIE_DONE && why.obstacles != 0))
+        fault(d, call, "an obstacle that there isn't");
+    return status;
+}
+
+/* Whether a handle with nothing, and only that, is refused as having nothing, if no other refusal comes first. */
+static void look_at_handle(drawing *d, int call, uint32_t status, kind on, const size_t at[KINDS], uint64_t first) {
+    bool has = on != NONE && d->has[on][at[on]];
+    if (on != NONE && (has ? status == NOTHING[on] : status != NOTHING[on] && (first >> status & 1) == 0))
+        fault(d, call, has ? "a handle with something is refused" : "a handle with nothing is taken");
+}
+
+/* What handles have after a call that is done. */
+static void note(drawing *d, int call, const size_t at[KINDS]) {
+    static const struct { int call; kind ends; } ending[] = {
+        {keys_free_call, KEYS},         {jar_free_call, JAR},       {sessions_free_call, SITE},
+        {opened_free_call, OPENED},     {opened_take_call, OPENED}, {session_free_call, SESSION},
+        {session_log_out_call, SESSION}, {suffixes_free_call, LIST}, {agent_free_call, AGENT}};
+    if (FACTS_OF[call].made != NONE)
+        d->has[FACTS_OF[call].made][at[FACTS_OF[call].made]] = true;
+    for (size_t i = 0; i < sizeof ending / sizeof *ending; i++)
+        if (ending[i].call == call)
+            d->has[ending[i].ends][at[ending[i].ends]] = false;
 }
 
 static void play(drawing *d) {
     static const int fills[] = {agent_read_call, agent_read_call,  agent_read_call,
                                 jar_add_call,    session_set_call, session_set_texts_call};
     int call = one_in(d, 4) ? ONE_OF(d, fills) : (int)below(d, COUNT);
-    bool ends =
-        strstr(NAMES[call], "_free") != NULL || strstr(NAMES[call], "_new") != NULL || call == session_start_call;
+    const struct call *facts = &FACTS_OF[call];
+    bool ends = strstr(facts->name, "_free") != NULL || strstr(facts->name, "_new") != NULL || call == session_start_call;
+    size_t at[KINDS];
+    uint32_t status;
     if (ends && !one_in(d, 4))
         return;
     d->count++;
-    if (call == refusal_section_call)
-        call = refusal_sentence_call;
-    if (call == next_pair_call || call == next_pair_decoded_call || call == read_call || call == read_decoded_call)
-        play_reading(d, call);
-    else if (call == read_pairs_call)
-        play_pairs(d);
-    else if (call >= keys_new_call && call <= open_call)
-        play_keys(d, call);
-    else if (call == token_make_call || call == token_read_call)
-        play_keys(d, call);
-    else if (strncmp(NAMES[call], "jar", 3) == 0)
-        play_jar(d, call);
-    else if (call == sessions_new_call || call == sessions_free_call || call == session_end_call)
-        play_site(d, call);
-    else if (strncmp(NAMES[call], "opened", 6) == 0)
-        play_opened(d, call);
-    else if (strncmp(NAMES[call], "session", 7) == 0)
-        play_session(d, call);
-    else if (strncmp(NAMES[call], "agent", 5) == 0 || strncmp(NAMES[call], "suffixes", 8) == 0 || call == explain_call
-             || call == explain_lines_call)
-        play_agent(d, call);
+    for (size_t i = 0; i < KINDS; i++)
+        at[i] = below(d, PAIR);
+    if (call < keys_new_call)
+        status = make_plain(d, call);
+    else if (call < jar_new_call)
+        status = make_with_keys(d, call, &d->keys[at[KEYS]]);
+    else if (call < sessions_new_call)
+        status = make_with_jar(d, call, &d->jars[at[JAR]]);
+    else if (call < suffixes_new_call)
+        status = make_with_session(d, call, &d->sites[at[SITE]], &d->opened[at[OPENED]], &d->sessions[at[SESSION]]);
     else
-        play_plain(d, call);
+        status = make_with_agent(d, call, &d->agents[at[AGENT]], &d->lists[at[LIST]]);
+    look_at_handle(d, call, status, facts->on, at, facts->first);
+    look_at_handle(d, call, status, facts->on_too, at, facts->first_too);
+    if (call == opened_take_call && status == COOKIE_DONE && !d->has[OPENED][at[OPENED]])
+        fault(d, call, "a handle with nothing is taken");
+    if (status == COOKIE_DONE)
+        note(d, call, at);
 }
 
 static size_t wanted;
@@ -1050,6 +807,21 @@ static void *play_all(void *at) {
     return NULL;
 }
 
+/* Says which statuses no call of the two returned. Returns how many of all were met. */
+static size_t say_unmet(const drawing *one, const drawing *other, size_t *all) {
+    size_t met = 0;
+    for (int call = 0; call < COUNT; call++)
+        for (uint32_t status = 0; status < STATUSES; status++) {
+            if (status != COOKIE_DONE && (FACTS_OF[call].statuses >> status & 1) == 0)
+                continue;
+            bool is_met = one->met[call][status] + other->met[call][status] > 0;
+            ++*all, met += is_met;
+            if (!is_met)
+                printf("not met: cookie_%s, status %u\n", FACTS_OF[call].name, status);
+        }
+    return met;
+}
+
 int main(int count, char **words) {
     static drawing drawings[2];
     pthread_t threads[2];
@@ -1064,18 +836,8 @@ int main(int count, char **words) {
     }
     for (size_t i = 0; i < 2; i++)
         pthread_join(threads[i], NULL);
-    size_t documented = 0, met = 0;
-    for (int call = 0; call < COUNT; call++)
-        for (uint32_t status = 0; status < STATUSES; status++)
-            if (status == COOKIE_DONE || (MASKS[call] >> status & 1) == 1) {
-                documented++;
-                if (drawings[0].met[call][status] + drawings[1].met[call][status] > 0)
-                    met++;
-                else
-                    printf("not met: cookie_%s, status %u\n", NAMES[call], status);
-            }
-    size_t faults = drawings[0].faults + drawings[1].faults;
-    printf("%zu calls of %d, %zu of %zu statuses met, %zu faults\n", drawings[0].count + drawings[1].count, COUNT, met,
-           documented, faults);
+    size_t all = 0, met = say_unmet(&drawings[0], &drawings[1], &all), faults = drawings[0].faults + drawings[1].faults;
+    size_t made = drawings[0].count + drawings[1].count;
+    printf("%zu calls of %d, %zu of %zu statuses met, %zu faults\n", made, COUNT, met, all, faults);
     return faults != 0;
 }

@@ -12,7 +12,8 @@ from .sessions import Sessions
 
 SUBJECTS = {
     "agent.tsv": Agents, "browser.tsv": Browser, "cookie_fields.tsv": OneCookie, "cookies.tsv": OneCookie,
-    "cut_cookies.tsv": OneCookie, "dates.tsv": Dates, "headers.tsv": Jars, "jars.tsv": Jars, "runs.tsv": Runs, "secrets.tsv": Secrets, "sessions.tsv": Sessions,
+    "cut_cookies.tsv": OneCookie, "dates.tsv": Dates, "headers.tsv": Jars, "jars.tsv": Jars, "runs.tsv": Runs,
+    "secrets.tsv": Secrets, "sessions.tsv": Sessions,
 }
 
 

@@ -135,7 +135,8 @@ class Agents(Player):
 
     def on_path(self, step):
         path, _, kept = step.words.partition(" | ")
-        return self.is_sent(Address("a.com", "/", False, False), b"n=1; Path=" + kept.encode(), Address("a.com", path, False, False))
+        at, to = (Address("a.com", of, False, False) for of in ("/", path))
+        return self.is_sent(at, b"n=1; Path=" + kept.encode(), to)
 
     def on_domain(self, step):
         host, _, domain = step.words.partition(" | ")

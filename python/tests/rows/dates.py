@@ -28,7 +28,9 @@ class Dates(Player):
         return True
 
     def read(self, text, wanted):
-        return (self.calls.read_date(text), date(wanted) if wanted[-1].isdigit() else wanted) if self.is_read(text) else PASSED
+        if not self.is_read(text):
+            return PASSED
+        return self.calls.read_date(text), date(wanted) if wanted[-1].isdigit() else wanted
 
     def on_read(self, step):
         return self.read(unescaped(step.words), step.wanted)

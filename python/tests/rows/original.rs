@@ -206,8 +206,10 @@ fn main() {
             };
             found.map(|texts| texts.iter().map(|text| hex(text.as_bytes())).collect())
         };
-        let answer = found.map_or_else(|name| format!("refused\t{name}"), |texts| ["ok".to_owned()].into_iter().chain(texts).collect::<Vec<_>>().join("\t"));
-        println!("{answer}");
+        match found {
+            Ok(texts) => println!("{}", [vec!["ok".to_owned()], texts].concat().join("\t")),
+            Err(name) => println!("refused\t{name}"),
+        }
         io::stdout().flush().expect("a reader");
     }
 }

@@ -1,5 +1,6 @@
 """Reads the rows of crates/cookie_vectors/data. That crate's README.md has their form."""
 import datetime
+import functools
 import os
 import re
 from pathlib import Path
@@ -116,3 +117,11 @@ def date_text(numbers):
     weekday = datetime.date(year % 400 + 2000, month, day).strftime("%a")
     name = datetime.date(2000, month, 1).strftime("%b")
     return f"{weekday}, {day:02} {name} {year} {hour:02}:{minute:02}:{second:02} GMT".encode()
+
+
+@functools.lru_cache(maxsize=1)
+def key_of_tests():
+    """The key of the crate's tests."""
+    texts = (path.read_text() for path in TOP.glob("crates/*/src/**/given.rt"))
+    found = next(filter(None, (re.search(r"TEST_KEY: \[u8; 64\] = \[([^\]]*)\]", text) for text in texts)))
+    return bytes(map(int, re.findall(r"\d+", found[1])))

@@ -2,26 +2,16 @@
 key."""
 import base64
 import contextlib
-import functools
-import re
 
 from deomigal.errors import NotFound, NotSealed
 
 from .jars import Jars
 from .player import PASSED, outcome
-from .rowfile import TOP, cookie, unescaped
+from .rowfile import cookie, key_of_tests, unescaped
 
 # What is put into a damaged value: nothing, a letter of base64, a character of none, one of its alphabet for addresses,
 # a blank, its padding, a newline, and a character of two bytes.
 OTHERS = [b"", b"A", b"!", b"_", b" ", b"=", b"\n", "\u00e9".encode()]
-
-
-@functools.lru_cache(maxsize=1)
-def test_key():
-    """The key of the crate's tests."""
-    texts = (path.read_text() for path in TOP.glob("crates/*/src/**/given.rt"))
-    found = next(filter(None, (re.search(r"TEST_KEY: \[u8; 64\] = \[([^\]]*)\]", text) for text in texts)))
-    return bytes(map(int, re.findall(r"\d+", found[1])))
 
 
 def damaged(value):
@@ -36,7 +26,7 @@ class Secrets(Jars):
 
     def __init__(self, calls):
         super().__init__(calls)
-        self.key, self.count, self.stored = test_key(), 0, {}
+        self.key, self.count, self.stored = key_of_tests(), 0, {}
 
     def drawn(self, count):
         """The next numbers of the generator, four bytes each."""

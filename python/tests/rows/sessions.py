@@ -7,8 +7,7 @@ from deomigal.sessions import MAX_AGE
 
 from .jars import escaped, readable
 from .player import PASSED, Player
-from .rowfile import cookie, items, unescaped
-from .secrets import test_key
+from .rowfile import cookie, items, key_of_tests, unescaped
 
 FIRST = 1_445_412_480
 SEVENS = bytes([7] * 16)
@@ -17,7 +16,7 @@ LAST = 253_402_207_200
 
 
 def key_named(name):
-    return test_key() if name == "test" else bytes([int(name)] * 64)
+    return key_of_tests() if name == "test" else bytes([int(name)] * 64)
 
 
 class Sessions(Player):
@@ -25,7 +24,7 @@ class Sessions(Player):
 
     def __init__(self, calls):
         super().__init__(calls)
-        self.keys, self.limits, self.now = [test_key()], [1200, 600], FIRST
+        self.keys, self.limits, self.now = [key_of_tests()], [1200, 600], FIRST
         self.cookie = readable(cookie("__Host-session=; Path=/; Secure; HttpOnly; SameSite=Lax"))
         self.originals, self.revoked, self.new_id = {}, b"", SEVENS
         self.session, self.saved = library.Session(), None
@@ -34,7 +33,8 @@ class Sessions(Player):
     def site(self, cookie):
         """The site's sessions, in the cookie."""
         keys, made = b"".join(self.keys), library.Sessions()
-        library.perform(library.SESSIONS_NEW, library.SessionSettings(keys, len(keys), cookie, len(cookie), *self.limits), made)
+        settings = library.SessionSettings(keys, len(keys), cookie, len(cookie), *self.limits)
+        library.perform(library.SESSIONS_NEW, settings, made)
         return made
 
     def with_site(self, call, *words):
