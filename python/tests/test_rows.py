@@ -5,14 +5,41 @@ import os
 import pytest
 import rows
 from rows import original
+from rows.player import PASSED, faults_of
 from rows.rowfile import DATA
 
+FILES = rows.SUBJECTS if DATA.exists() else []
 
-@pytest.mark.parametrize("name", rows.SUBJECTS if DATA.exists() else [])
+
+@pytest.mark.parametrize("name", FILES)
 def test_rows(name):
     """Each step returns what its row says."""
     played, faults = rows.through_library(name)
     assert played and faults == []
+
+
+def is_noticed(row, place, player):
+    """Whether another answer of the step is said to be wrong, or can't be read as an answer."""
+    step = row.steps[place]
+    steps = [*row.steps[:place], step._replace(wanted="other=answer"), *row.steps[place + 1 :]]
+    try:
+        return faults_of(row._replace(steps=steps), player) != []
+    except (AssertionError, AttributeError, LookupError, ValueError):
+        return True
+
+
+@pytest.mark.parametrize("name", FILES)
+def test_wrong_rows(name):
+    """The last answer that is looked at can be wrong."""
+    calls, looked = rows.Library(), 0
+    for row in rows.rows_of(name, "library"):
+        player = rows.SUBJECTS[name](calls)
+        looks = [player.play(step) is not PASSED and step.wanted != "done" for step in row.steps]
+        if any(looks):
+            looked += 1
+            last = max(place for place, is_one in enumerate(looks) if is_one)
+            assert is_noticed(row, last, rows.SUBJECTS[name](calls)), row.title
+    assert looked
 
 
 if "ORIGINAL" in os.environ:

@@ -5,7 +5,7 @@ from .cookies import OneCookie
 from .dates import Dates
 from .jars import Jars
 from .library import Library
-from .player import play
+from .player import play, rows_of
 from .runs import Runs
 from .secrets import Secrets
 from .sessions import Sessions

@@ -84,9 +84,14 @@ def faults_of(row, player):
             for step, fault in played if fault not in (None, PASSED)]
 
 
+def rows_of(name, player):
+    """The rows of a file that are for the player."""
+    return [row for row in rows(name) if player not in row.not_for]
+
+
 def play(name, subject, player):
-    """Plays the rows of a file that are for the player. Returns how many, and what is wrong."""
-    played = [faults_of(row, subject()) for row in rows(name) if player not in row.not_for]
+    """Plays these rows. Returns how many, and what is wrong."""
+    played = [faults_of(row, subject()) for row in rows_of(name, player)]
     return len(played), [fault for faults in played for fault in faults]
 
 
