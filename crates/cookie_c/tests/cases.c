@@ -114,18 +114,15 @@ static void texts_of_cookies(void) {
     cookie_jar_free(&jar);
 }
 
-/* The keys are looked at before the texts, and the texts before the nonce. A text that doesn't fit is not written. Each
- * key verifies and opens, and the newest one signs and seals. */
+/* The keys are looked at before the texts, and the texts before the nonce. Nothing is written then. */
 static void keys_and_nonces(void) {
-    uint8_t both[128], made[64];
-    cookie_keys none = {0}, keys = {0}, newer = {0};
-    memset(both, 1, 64);
-    memcpy(both + 64, KEY, 64);
+    uint8_t both[128] = {1};
+    cookie_keys none = {0}, keys = {0};
     for (size_t length = 0; length < 128; length += length < 63 ? 63 : 64)
         MUST(cookie_keys_new(both, length, &keys) == COOKIE_KEY_TOO_SHORT);
     MUST(cookie_keys_new(NULL, 0, &keys) == COOKIE_KEY_TOO_SHORT);
     MUST(is(cookie_sign(&keys, T("n"), T("v"), OUT), COOKIE_NO_KEYS, 0));
-    MUST(cookie_keys_new(KEY, 64, &keys) == COOKIE_DONE && cookie_keys_new(both, 128, &newer) == COOKIE_DONE);
+    MUST(cookie_keys_new(both, 128, &keys) == COOKIE_DONE);
     MUST(cookie_keys_new(both, 65, &keys) == COOKIE_KEY_TOO_SHORT);
     MUST(is(cookie_sign(&none, T("\xff"), T("\xff"), OUT), COOKIE_NO_KEYS, 0));
     MUST(is(cookie_verify(&none, T("\xff"), T("\xff"), OUT), COOKIE_NO_KEYS, 0));
@@ -138,15 +135,6 @@ static void keys_and_nonces(void) {
     MUST(is(cookie_verify(&keys, T("n"), T("\xff"), OUT), COOKIE_NOT_UTF8, 0));
     MUST(is(cookie_derive_key(KEY, 31, OUT), COOKIE_MASTER_TOO_SHORT, 0));
     MUST(holds(""));
-    size_t length = cookie_sign(&keys, T("n"), T("v"), made, sizeof made).length;
-    MUST(length == 45 && is(cookie_verify(&newer, T("n"), made, length, OUT), COOKIE_DONE, 1) && holds("v"));
-    length = cookie_sign(&newer, T("n"), T("v"), made, sizeof made).length;
-    MUST(length == 45 && is(cookie_verify(&keys, T("n"), made, length, OUT), COOKIE_NOT_SIGNED, 0) && holds(""));
-    length = cookie_seal(&keys, KEY, 12, T("n"), T("v"), made, sizeof made).length;
-    MUST(length == 40 && is(cookie_open(&newer, T("n"), made, length, OUT), COOKIE_DONE, 1) && holds("v"));
-    length = cookie_seal(&newer, KEY, 12, T("n"), T("v"), made, sizeof made).length;
-    MUST(length == 40 && is(cookie_open(&keys, T("n"), made, length, OUT), COOKIE_NOT_SEALED, 0) && holds(""));
-    cookie_keys_free(&newer);
     cookie_keys_free(&keys);
     cookie_keys_free(&keys);
     MUST(is(cookie_sign(&keys, T("n"), T("v"), OUT), COOKIE_NO_KEYS, 0) && holds(""));
@@ -426,39 +414,6 @@ static void renewals(void) {
     cookie_session_free(&other);
 }
 
-/* An opened session is saved once a tenth of its idle time has passed, of 600 seconds or of the site's, and before it if
- * it was changed or an older key opened it. A new one without texts isn't. */
-static void needed_saves(void) {
-    uint8_t keys[128];
-    memset(keys, 2, 64);
-    memset(keys + 64, 1, 64);
-    cookie_sessions sessions = {0};
-    cookie_session session = {0};
-    cookie_session_settings site = settings(keys + 64, 64, "__Host-session=; Path=/; Secure");
-    MUST(cookie_sessions_new(&site, &sessions) == COOKIE_DONE);
-    MUST(cookie_session_open(&sessions, T(ANN), NOW, &session) == COOKIE_DONE);
-    MUST(needs(cookie_session_must_save(&sessions, &session, NOW), COOKIE_DONE, false));
-    MUST(needs(cookie_session_must_save(&sessions, &session, NOW + 59), COOKIE_DONE, false));
-    MUST(needs(cookie_session_must_save(&sessions, &session, NOW + 60), COOKIE_DONE, true));
-    MUST(cookie_session_set(&session, T("a"), T("1")) == COOKIE_DONE);
-    MUST(needs(cookie_session_must_save(&sessions, &session, NOW), COOKIE_DONE, true));
-    site.idle = 100;
-    MUST(cookie_sessions_new(&site, &sessions) == COOKIE_DONE);
-    MUST(cookie_session_open(&sessions, T(ANN), NOW, &session) == COOKIE_DONE);
-    MUST(needs(cookie_session_must_save(&sessions, &session, NOW + 9), COOKIE_DONE, false));
-    MUST(needs(cookie_session_must_save(&sessions, &session, NOW + 10), COOKIE_DONE, true));
-    site = settings(keys, 128, "__Host-session=; Path=/; Secure");
-    MUST(cookie_sessions_new(&site, &sessions) == COOKIE_DONE);
-    MUST(cookie_session_open(&sessions, T(ANN), NOW, &session) == COOKIE_DONE);
-    MUST(needs(cookie_session_must_save(&sessions, &session, NOW), COOKIE_DONE, true));
-    MUST(cookie_session_start(&sessions, KEY, 16, NOW, &session) == COOKIE_DONE);
-    MUST(needs(cookie_session_must_save(&sessions, &session, NOW + 1199), COOKIE_DONE, false));
-    MUST(cookie_session_set(&session, T("a"), T("1")) == COOKIE_DONE);
-    MUST(needs(cookie_session_must_save(&sessions, &session, NOW), COOKIE_DONE, true));
-    cookie_sessions_free(&sessions);
-    cookie_session_free(&session);
-}
-
 /* A handle without opened sessions is refused, also after it was freed. Ids that are cut come first. */
 static void handles_without_opened_sessions(void) {
     cookie_opened opened = {0};
@@ -582,10 +537,6 @@ static void tokens(void) {
     none.status = COOKIE_NOT_SEALED;
     MUST(over.status == none.status && over.length == 0 && over.made == 0 && over.end == 0);
     MUST(memcmp(over.id, none.id, 16) == 0);
-    settings.lifetime = 60;
-    MUST(cookie_token_read(&keys, &settings, text, made.length, NOW + 59, OUT).status == COOKIE_DONE);
-    MUST(cookie_token_read(&keys, &settings, text, made.length, NOW + 60, OUT).status == COOKIE_NOT_SEALED);
-    MUST(holds("ann"));
     cookie_keys_free(&keys);
 }
 
@@ -782,7 +733,6 @@ int main(void) {
     settings_that_are_no_sites();
     texts_of_sessions();
     renewals();
-    needed_saves();
     handles_without_opened_sessions();
     opened_sessions();
     texts_of_browsers();
