@@ -1,12 +1,12 @@
-#!/usr/bin/env python3
-# Names the public calls that nothing runs, for tools/quick. It runs nothing itself.
-#
-# A call of a library crate has to be seen. In a copy of the crates, in which `tools/quick` makes its runs, each public function
-# first marks that it was called, by a function of C. There the programs run as they are stored, the rows of cookie_vectors
-# among them, and the tests. The libraries that play rows are tests, so their calls aren't counted. It needs rt and a C compiler. A conversion of an error (`From`) isn't counted: most come only
-# out of memory. tools/c/try sees whether each export of cookie_c is called.
-#
-# The copy has a public function more, which nothing runs: it has to be named, and no other.
+"""Names the public calls that nothing runs, for tools/quick.
+
+In the copy of the crates in which `tools/quick` makes its runs, each public function of a library first marks that it was
+called, by a function of C. There the programs run as they are stored, the rows of cookie_vectors among them, and the
+tests. It needs rt and a C compiler. The libraries that play rows are tests, so their calls aren't counted, nor is a
+conversion of an error (`From`): most come only out of memory. `tools/c/try` sees whether each export of cookie_c is called.
+
+The copy has a public function more, which nothing runs: it has to be named, and no other.
+"""
 import os, re, shutil
 
 import toolchain
@@ -106,7 +106,3 @@ def faults_in(room, calls):
     marks = marks_in(room)
     uncalled = {name for number, name in enumerate(calls) if number not in marks}
     return "".join(f"{fault}\n" for fault in faults_of(uncalled))
-
-
-if __name__ == "__main__":
-    print("usage: tools/quick calls this tool, whose head says what it does")
