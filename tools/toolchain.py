@@ -96,18 +96,29 @@ def run_in(folder, *command):
         sys.exit(done.stdout)
 
 
+def files_of(source):
+    """The files of a driver, by their names in its crate: one file, or those of a folder that has main.txt."""
+    return {path.stem + ".rt": path for path in sorted(source.glob("*.txt"))} if source.is_dir() else {"main.rt": source}
+
+
+def put_driver(source, folder):
+    """Puts the files of a driver into the folder src/ of its crate."""
+    (folder / "src").mkdir(parents=True, exist_ok=True)
+    for name, path in files_of(source).items():
+        shutil.copy(path, folder / "src" / name)
+
+
 def driver_over(work, name, needs, source):
     """Proves and builds a driver over the libraries in the folders out/, by the commands that `rt run` gives. If it was
-    built in this folder before, of the same file over the same libraries, it is taken as it is."""
+    built in this folder before, of the same files over the same libraries, it is taken as it is."""
     tools, at = kit(), work / name
     built = {crate: ROOT / "crates" / crate / "out/rlib" for need in needs if need in crate_lines() for crate in crates_below(need)}
     files = [place / f"{crate}.rlib" / file for crate, place in sorted(built.items()) for file in ("format", "toolchain/mir.json")]
-    stamp, kept = sum_of(source, tools / "KIT-ID", *files), at / "stamp"
+    stamp, kept = sum_of(*files_of(source).values(), tools / "KIT-ID", *files), at / "stamp"
     if kept.exists() and kept.read_text() == stamp:
         return at / name
-    (at / "src").mkdir(parents=True, exist_ok=True)
+    put_driver(source, at)
     kept.unlink(missing_ok=True)
-    shutil.copy(source, at / "src/main.rt")
     words = ["--crate-name", name, "src/main.rt", "--incremental", "incremental"]
     for crate in ["std", *needs]:
         words += ["--extern", f"{crate}={built.get(crate, tools / 'rlibs') / crate}.rlib"]
@@ -124,7 +135,7 @@ def driver_over(work, name, needs, source):
 
 def program_of(work, name, needs, words, source=None, stdin=subprocess.DEVNULL):
     """Proves and builds a program over the last commit, from what checks of this folder have kept, and runs it once
-    with these words. It is the crate of that name, or a driver of the file `source` over the crates that it needs. A
+    with these words. It is the crate of that name, or a driver of `source` over the crates that it needs. A
     driver is built over the libraries of this folder, if all are there, as after `rt ci`: in the folder that the variable
     KEEP names, if it does, where it stays for later."""
     if source and all(is_built(crate) for need in needs if need in crate_lines() for crate in crates_below(need)):
@@ -140,10 +151,9 @@ def program_of(work, name, needs, words, source=None, stdin=subprocess.DEVNULL):
             shutil.copytree(kept, copy)
     folder = clone / "crates" / name
     if source:
-        (folder / "src").mkdir(parents=True)
+        put_driver(source, folder)
         (folder / "specs").mkdir()
         (folder / "specs/Lib.antt").touch()
-        shutil.copy(source, folder / "src/main.rt")
         with open(clone / "crates.txt", "a") as crates:
             crates.write(f"{name}: {' '.join(needs)}\n")
     command = ["rt", "run", "--jobs", "1", "--", *words]

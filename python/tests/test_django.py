@@ -1,4 +1,4 @@
-"""Facts about `deomigal.django`. tools/try-suites plays Django's own tests."""
+"""Facts about `deomigal.django`. `tests/play suites` plays Django's own tests."""
 import asyncio
 import datetime
 import json

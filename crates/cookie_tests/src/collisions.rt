@@ -2,7 +2,7 @@
 //! them without going over the others.
 //!
 //! Such a jar goes over half of the names at each look-up. Here that takes about twenty times as long as to hash with
-//! keys. `tools/performance/names.py` says how the names are chosen. The least of several times is compared, so that a
+//! keys. `benches/given.py` says how the names are chosen. The least of several times is compared, so that a
 //! pause of the machine changes no answer.
 use cookie::{Cookie, CookieJar};
 use std::alloc::Global;
