@@ -275,9 +275,9 @@ def counted(python, folder, environment):
     subprocess.run([*count, python, "-W", "ignore", __file__, "--play", folder / "marks.so"], check=True, env=environment)
     for path in sorted(folder.glob("count.*"), key=lambda path: int(path.suffix[1:])):
         text = path.read_text()
-        name = re.search(r"^desc: Trigger: Client Request: (.*)$", text, re.M)
-        if name:
-            yield f"{name[1]}|{int(re.search(r'^(?:totals|summary): (\d+)', text, re.M)[1]) // TIMES}"
+        if name := re.search(r"^desc: Trigger: Client Request: (.*)$", text, re.M):
+            total = re.search(r"^(?:totals|summary): (\d+)", text, re.M)
+            yield f"{name[1]}|{int(total[1]) // TIMES}"
 
 
 def main(how, prefix):

@@ -29,12 +29,6 @@ class Chromium:
         self.session = self.call("Target.attachToTarget", targetId=target, flatten=True)["sessionId"]
         self.call("Page.enable")
 
-    def __enter__(self):
-        return self
-
-    def __exit__(self, *_):
-        self.end()
-
     def message(self):
         while b"\0" not in self.rest:
             got = os.read(self.read_end, 65536)

@@ -1,4 +1,4 @@
-"""The site that tools/try-login plays, and the CGI servers in front of it."""
+"""The site that `tests/play login` plays, and the CGI servers in front of it."""
 
 import http.server
 import os
@@ -21,18 +21,11 @@ NAME = "__Host-session"
 ANN, BOB = {"user": "ann", "password": "secret"}, {"user": "bob", "password": "hidden"}
 
 
-def check(what, is_right, seen=""):
-    """Prints a step, and ends the run if it is wrong."""
-    if not is_right:
-        sys.exit(f"WRONG: {what}\n{seen}")
-    print(f"  {what}", flush=True)
-
-
 class Site:
     """A folder with the program as a CGI program. The servers may run it as another user, who has to write to `store`."""
 
     def __init__(self, program):
-        self.folder = Path(tempfile.mkdtemp(prefix="try-login-"))
+        self.folder = Path(tempfile.mkdtemp(prefix="play-login-"))
         self.folder.chmod(0o755)
         shutil.copy(program, self.folder / "login")
         (self.folder / "login").chmod(0o755)

@@ -1,7 +1,6 @@
-#!/usr/bin/env python3
 """Plays the program `login` as a visitor meets it.
 
-    tools/try-login/run [--program FILE]
+    tests/play login [--program FILE]
 
 Behind `python3 -m http.server --cgi` users log in and out: a wrong password and a cookie that was changed by hand are
 refused, and so is each copy of a cookie after its logout, and after a restart of the server. While the file of revoked
@@ -9,8 +8,7 @@ sessions can't be opened, nobody is greeted. Then Chromium visits the program ov
 of its domain sets cookies that are to log a visitor in as someone else (sibling.py). A server that decodes names shows that
 they would (decoding.py).
 
-Each step prints a line, and the first that goes wrong ends the run with status 1. It takes openssl and chromium of Debian,
-and builds the program by `rt run` unless FILE has it. Each server and each browser that it starts is ended by it.
+It takes openssl and chromium of Debian, and builds the program by `rt run` unless FILE has it.
 """
 
 import argparse
@@ -24,12 +22,11 @@ import time
 import urllib.parse
 from pathlib import Path
 
-# No folder of compiled modules in the sources.
-sys.dont_write_bytecode = True
-from server import ANN, BOB, NAME, PATH, PORT, Site, check, serve
+from server import ANN, BOB, NAME, PATH, PORT, Site, serve
+from shared import TOP, check, end, try_python
 from sibling import play_chromium, play_sibling
 
-CRATE = Path(__file__).resolve().parent.parent.parent / "crates/login"
+CRATE = TOP / "crates/login"
 GREETED, STRANGER = (200, "Hello, ann!"), (200, "Who are you?")
 
 
@@ -140,15 +137,17 @@ def built():
 
 
 def main():
-    parser = argparse.ArgumentParser(prog="tools/try-login/run", description="Plays the program login, also with Chromium.")
+    parser = argparse.ArgumentParser(prog="tests/play login", description="Plays the program login, also with Chromium.")
     parser.add_argument("--program", type=Path, help="the program; without it rt run builds it")
-    program = (parser.parse_args().program or built()).resolve()
+    words = parser.parse_args()
+    try_python.install_packages({}, {"openssl": "openssl", "chromium": "chromium"})
+    program = (words.program or built()).resolve()
     print("behind python3 -m http.server --cgi")
     play_requests(program)
     print("in Chromium, over TLS, and beside other hosts of its domain")
     play_chromium(program)
     play_sibling(program)
-    print("all as it should be")
+    end()
 
 
 if __name__ == "__main__":
