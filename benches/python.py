@@ -298,7 +298,8 @@ def main(how, prefix):
     unit, form = UNITS[how]
     print(f"| Python, {unit} | `deomigal` | Its peer | Ratio |\n|---|---:|---:|---:|")
     for title, (ours, theirs) in found.items():
-        print(f"| {title} | {ours:{form}} | {theirs:{form}} | {ours / theirs:.2f} |")
+        ratio = ours / theirs
+        print(f"| {title} | {ours:{form}} | {theirs:{form}} | {ratio:{'.2f' if ratio > 0.01 else '.4f'}} |")
 
 
 if __name__ == "__main__":

@@ -27,6 +27,14 @@ def module_of(name):
     return module
 
 
+def help_if_asked():
+    """Prints the head of the program that runs, and ends it, if its words have `--help` or `-h`."""
+    if {"-h", "--help"} & {*sys.argv[1:]}:
+        head = re.match(r'#![^\n]*\n(?:"""([^"]*)"""|((?:#[^\n]*\n)+))', pathlib.Path(sys.argv[0]).read_text())
+        print((head[1] or re.sub(r"^# ?", "", head[2], flags=re.M)).strip())
+        sys.exit()
+
+
 def kit():
     """The toolchain's folder."""
     page = subprocess.run(["rt", "doc"], check=True, capture_output=True, text=True).stdout.strip()
