@@ -1,6 +1,5 @@
 """The tables of docs/PERFORMANCE.md. Each has one form: a work, what it takes here, what a peer takes, and the ratio."""
 
-import os
 import subprocess
 import sys
 from pathlib import Path
@@ -9,7 +8,7 @@ from typing import NamedTuple
 import given
 import growth
 import page
-from programs import HERE, Run, toolchain
+from programs import HERE, Run
 
 # The table that was printed last, and what isn't as it has to be, which the script says at its end.
 printed, failed = [], []
@@ -37,7 +36,13 @@ CALLS = {
     "delta": ("add,delta", "add"),
     "clone": ("add-original,clone,iter", "add-original,iter"),
 }
-REQUESTS = {"plain": ("plain", (1, 3, 10, 30)), "with escapes": ("escapes", (3, 10)), "signed": ("plain", (3,)), "private": ("plain", (3,))}
+REQUESTS = {"plain": ("plain", (1, 3, 10, 30)), "with escapes": ("escapes", (3, 10))}
+REQUESTS |= {"signed": ("plain", (3,)), "private": ("plain", (3,))}
+# What is done with a session, and under how many keys, of which the oldest encrypted it.
+SESSIONS = [("`open`, beside a private `get`", "open", 1), ("`open` under the oldest of 4 keys", "open", 4)]
+SESSIONS += [("`save`, beside a private `add`", "save", 1)]
+# What the cipher does, and what is taken off of it.
+CIPHER = [("`seal_in_place`", "seal", None), ("`open_in_place`", "seal-and-open", "seal"), ("`hmac`", "hmac", None)]
 TITLES = {"signed": "with a signed cookie", "private": "with a private cookie"}
 
 
@@ -91,17 +96,19 @@ def secret_rows():
     for work in ("signed", "private"):
         for size in (100, 4_096):
             line = given.long_value(size)
-            runs = [Run(sign * of, f"child {what}", [line] * count) for sign, what in ((1, work), (-1, "made")) for of, count in ((1, 2), (-1, 1))]
+            both = [(sign * of, what, count) for sign, what in ((1, work), (-1, "made")) for of, count in ((1, 2), (-1, 1))]
+            runs = [Run(sign, f"child {what}", [line] * count) for sign, what, count in both]
             yield Row(f"{work} `add` and `get`, {size:,} bytes", runs, CHILD_TIMES, work)
-    for title, work, keys in (("`open`, beside a private `get`", "open", 1), ("`open` under the oldest of 4 keys", "open", 4), ("`save`, beside a private `add`", "save", 1)):
+    for title, work, keys in SESSIONS:
         yield repeated(title, f"session {work} {keys}", f"session none {keys}", given.SESSION, "private")
     for title, work in (("a token's `make`", "make"), ("a token's `read`", "read")):
         yield repeated(title, f"token {work} 1", "token none 1")
     for size, what in ((100, "of 100 bytes"), (4_096, "of 4,096 bytes, a byte")):
         share = size if size > 100 else 1
-        for title, words, without in (("`seal_in_place`", "seal", None), ("`open_in_place`", "seal-and-open", "seal"), ("`hmac`", "hmac", None)):
-            runs = [Run(1, f"cipher {words} {size} {1 + TIMES}"), Run(-1, f"cipher {without or words} {size} {1 + TIMES if without else 1}")]
-            yield Row(f"{title} {what}", runs, TIMES * share + (share if without else 0), "alone")
+        for title, words, without in CIPHER:
+            less = f"{without} {size} {TIMES + 1}" if without else f"{words} {size} 1"
+            runs = [Run(1, f"cipher {words} {size} {TIMES + 1}"), Run(-1, f"cipher {less}")]
+            yield Row(f"{title} {what}", runs, (TIMES + bool(without)) * share, "alone")
 
 
 def repeated(title, words, without, lines=(), way="alone"):
@@ -136,8 +143,10 @@ def agent_rows():
     plain = [rule.replace("*.", "any.").lstrip("!") for rule in rules if rule.isascii()]
     hosts = [f"www.shop{number}.{plain[number % len(plain)]}" for number in range(HOSTS)]
     listed = [*rules, "// HOSTS"]
-    yield Row(f"`Suffixes::new`, a rule of {len(rules):,}", [Run(1, "suffixes walk", listed), Run(-1, "suffixes walk", listed[-1:])], len(rules), "alone")
-    yield Row("`is_public`, a host", [Run(1, "suffixes look-up", listed + hosts), Run(-1, "suffixes walk", listed + hosts)], HOSTS, "alone")
+    reads = [Run(1, "suffixes walk", listed), Run(-1, "suffixes walk", listed[-1:])]
+    yield Row(f"`Suffixes::new`, a rule of {len(rules):,}", reads, len(rules), "alone")
+    looks = [Run(sign, f"suffixes {word}", listed + hosts) for sign, word in ((1, "look-up"), (-1, "walk"))]
+    yield Row("`is_public`, a host", looks, HOSTS, "alone")
 
 
 def start(heads):
@@ -173,9 +182,9 @@ def print_rows(bench, program, head, rows, has_blocks=False):
             if peer:
                 agree(bench, row, program, peer.program)
             theirs = bench.cost(peer.count, peer.program, row.runs, row.share) if peer else None
-            all_blocks = [*blocks, *([bench.cost(bench.memory, peer.program, row.runs, row.share)] if peer and blocks else [])]
+            others = [bench.cost(bench.memory, peer.program, row.runs, row.share)] if peer and has_blocks else []
             title = f"{row.title}, {peer.name}" if peer and peer.name else row.title
-            show([title, *cells(ours, theirs), *(f"{it:.1f}" for it in all_blocks)])
+            show([title, *cells(ours, theirs), *(f"{it:.1f}" for it in (*blocks, *others))])
 
 
 def print_time(bench):
@@ -186,7 +195,8 @@ def print_time(bench):
         peers = [peer for peer in bench.peers(row.way) if peer.name != "portable SHA"]
         run = Run(1, f"request {row.runs[0].words.split()[1]} {TIMED // given.HEADERS}", row.runs[0].lines)
         for peer in peers if "escapes" not in row.title else []:
-            rounds = [[bench.cost(bench.seconds, it, [run], TIMED / 1e6) for it in (bench.port(), peer.program)] for _ in range(RUNS)]
+            both = (bench.port(), peer.program)
+            rounds = [[bench.cost(bench.seconds, it, [run], TIMED / 1e6) for it in both] for _ in range(RUNS)]
             show([f"{row.title}, {peer.name}".removesuffix(", "), *cells(*map(min, zip(*rounds)), ".2f")])
 
 

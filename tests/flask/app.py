@@ -69,26 +69,10 @@ def home():
     return page.render(user=user, visits=session.get("visits"), worker=os.getpid())
 
 
-@app.get("/slow")
-def slow():
-    """Changes the session a while after it was opened."""
-    user = session.get("user")
-    time.sleep(0.05)
-    session["slow"] = True
-    return page.render(user=user, visits=0, worker=os.getpid())
-
-
 @app.post("/login")
 def log_in():
     session.clear()
     session.update(user=request.form["user"], visits=0)
-    return redirect("/", 303)
-
-
-@app.post("/renew")
-def renew():
-    """Starts the session anew, as a login does, with the same values."""
-    session.renew()
     return redirect("/", 303)
 
 

@@ -1,17 +1,14 @@
 """Logs users out under load, while workers and the store are killed: `tests/play flask --revocations`.
 
 The workers are forked after the store is made. Each client logs in, visits, keeps copies of its cookies, logs out, and
-later sends the copies again. Some requests are under way at the logout, and some sessions are renewed by two requests at
-once, of which one gets the new cookie. A worker of two is killed every second. With Redis the server is killed too, and
-started again; with SQLite a process that is writing to the file. Once a logout or a renewal was answered, no copy of before
-may be greeted; before, none may be unknown. An answer 503, or none of a worker that was killed, says nothing, and the client
-asks again.
+later sends the copies again. A worker of two is killed every second. With Redis the server is killed too, and started
+again; with SQLite a process that is writing to the file. Once a logout was answered, no copy of before may be greeted;
+before, none may be unknown. An answer 503, or none of a worker that was killed, says nothing, and the client asks again.
 """
 import contextlib
 import http.client
 import os
 import random
-import re
 import signal
 import sqlite3
 import subprocess
@@ -96,7 +93,7 @@ class Client:
 
     def __init__(self, tool, number):
         self.tool, self.number, self.draw = tool, number, random.Random(number)
-        self.count = self.unanswered = self.logouts = self.flights = self.renewals = self.conflicts = 0
+        self.count = self.unanswered = self.logouts = 0
         # The users whose session is open, with copies of their cookies, and the copies of those that were logged out.
         self.open, self.revoked, self.wrong = {}, [], []
 
@@ -136,48 +133,10 @@ class Client:
             self.open[user].append(self.tool.pair_of(text))
 
     def log_out(self, user):
-        cookies, late = self.open.pop(user), []
-        flight = threading.Thread(target=lambda: late.append(self.ask("/slow", cookies[0])))
-        is_in_flight = self.draw.random() < 0.3
-        if is_in_flight:
-            flight.start()
-            time.sleep(0.02)
+        cookies = self.open.pop(user)
         if self.until_answered("/logout", self.draw.choice(cookies), "")[0] != 303:
             self.wrong.append(f"{user} isn't logged out")
-        if is_in_flight:
-            flight.join()
-            saved = late[0] and late[0][1]
-            if saved and "Max-Age=0" not in saved:
-                self.flights += 1
-                cookies.append(self.tool.pair_of(saved))
         self.logouts += 1
-        self.revoked.append((user, cookies))
-        self.send_again(user, cookies)
-
-    def renew(self, user):
-        """Two requests renew the session at once, each by a copy of its cookie."""
-        cookies, answers = self.open.pop(user), []
-        each = [
-            threading.Thread(target=lambda cookie=cookie: answers.append(self.ask("/renew", cookie, "")))
-            for cookie in (cookies[0], cookies[-1])
-        ]
-        for thread in each:
-            thread.start()
-        for thread in each:
-            thread.join()
-        made = [self.tool.pair_of(answer[1]) for answer in answers if answer and answer[0] == 303 and answer[1]]
-        self.conflicts += sum(answer is not None and answer[0] == 409 for answer in answers)
-        if len(made) > 1 or any(answer and answer[0] not in (303, 409) for answer in answers):
-            self.wrong.append(f"{user} is renewed otherwise: {answers}")
-        if made:
-            self.renewals += 1
-            self.open[user] = made
-        elif None not in answers:
-            self.wrong.append(f"{user} is renewed by nobody: {answers}")
-        elif f"Hello, {user}." in self.until_answered("/", cookies[0])[2]:
-            # A renewal that wasn't answered has revoked nothing, or has revoked the session without another one.
-            self.open[user] = cookies
-            return
         self.revoked.append((user, cookies))
         self.send_again(user, cookies)
 
@@ -197,8 +156,6 @@ class Client:
                     self.send_again(*self.draw.choice(self.revoked))
                 if self.draw.random() < 0.2:
                     self.log_out(self.draw.choice(list(self.open)))
-                if self.open and self.draw.random() < 0.2:
-                    self.renew(self.draw.choice(list(self.open)))
         except Exception as error:
             self.wrong.append(repr(error))
 
@@ -238,17 +195,11 @@ def play_store(tool, python, folder, keys, store, seconds):
     try:
         with tool.site_of(python, folder, keys, count=2, **settings) as site:
             killed = storm(site, store, clients, seconds)
-            names = ("count", "unanswered", "logouts", "flights", "renewals", "conflicts")
-            count, unanswered, logouts, flights, renewals, conflicts = (
-                sum(getattr(client, name) for client in clients) for name in names
-            )
+            count, unanswered, logouts = (sum(getattr(it, name) for it in clients) for name in ("count", "unanswered", "logouts"))
             wrong = [fault for client in clients for fault in client.wrong]
             told = f"{store.name}: {count} requests, {logouts} logouts, {unanswered} without an answer or with 503"
             check(f"{told}: no revoked session opens, and no other is lost", logouts and not wrong, "\n".join(wrong[:5]))
             check(f"{killed[0]} workers were killed in between, and the store {killed[1]} times", all(killed), killed)
-            told = f"{renewals} sessions were renewed by two requests at once, of which {conflicts} were answered with 409"
-            check(f"{told}, and one had each", renewals and conflicts, (renewals, conflicts))
-            check(f"{flights} cookies were saved by requests under way at a logout, and none opens", flights, flights)
             check("then each copy is sent once more", *all_right(clients))
         # The site is started again over what the store kept.
         store.kill()
