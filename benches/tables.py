@@ -184,7 +184,8 @@ def print_rows(bench, program, head, rows, has_blocks=False):
             theirs = bench.cost(peer.count, peer.program, row.runs, row.share) if peer else None
             others = [bench.cost(bench.memory, peer.program, row.runs, row.share)] if peer and has_blocks else []
             title = f"{row.title}, {peer.name}" if peer and peer.name else row.title
-            show([title, *cells(ours, theirs), *(f"{it:.1f}" for it in (*blocks, *others))])
+            form = ",.1f" if row.title.endswith("a byte") else ",.0f"
+            show([title, *cells(ours, theirs, form), *(f"{it:.1f}" for it in (*blocks, *others))])
 
 
 def print_time(bench):
