@@ -88,10 +88,10 @@ fn action_of(rt: &HostRuntime, form: &[u8]) -> Result<Option<Action>> {
 fn act(
     rt: &HostRuntime,
     site: &mut Site<'_>,
-    jar: &mut CookieJar,
+    state: RandomState,
     cookies: &[u8],
     action: &Action,
-) -> Result<Option<Visit>, VisitError<RevocationError>> {
+) -> Result<(CookieJar, Option<Visit>), VisitError<RevocationError>> {
     let Site {
         sessions,
         revoked,
@@ -100,6 +100,7 @@ fn act(
     let (alloc, mut rng, now) = (rt.alloc(), SysRng::new(rt), *now);
     let cookies = field_cookies(alloc, cookies)?;
     let mut visit = sessions.visit(alloc, &cookies, now, &mut rng, revoked)?;
+    let mut jar = CookieJar::with_hasher(alloc, state).with_cookies(cookies)?;
     match action {
         Action::Look => {}
         Action::LogIn(user) => {
@@ -107,14 +108,14 @@ fn act(
             visit.set("user", user.as_str())?;
         }
         Action::LogOut => {
-            return match sessions.log_out(alloc, jar, visit, now, revoked)? {
-                Ending::Ended | Ending::Nobody => Ok(None),
+            return match sessions.log_out(alloc, &mut jar, visit, now, revoked)? {
+                Ending::Ended | Ending::Nobody => Ok((jar, None)),
                 Ending::Gone => Err(VisitError::Gone),
             };
         }
     }
-    sessions.save_if_needed(alloc, jar, &mut visit, now, &mut rng, revoked)?;
-    Ok(Some(visit))
+    sessions.save_if_needed(alloc, &mut jar, &mut visit, now, &mut rng, revoked)?;
+    Ok((jar, Some(visit)))
 }
 
 // Answers a request. If what is revoked isn't known, or another request came in between, the client is to try again.
@@ -122,9 +123,8 @@ fn answer(rt: &HostRuntime, site: &mut Site<'_>, cookies: &[u8], form: &[u8]) ->
     let Some(action) = action_of(rt, form)? else {
         return refused(rt, 403, "No user has this name and password.");
     };
-    let mut jar = CookieJar::with_hasher(rt.alloc(), RandomState::new(rt)?);
-    match act(rt, site, &mut jar, cookies, &action) {
-        Ok(visit) => {
+    match act(rt, site, RandomState::new(rt)?, cookies, &action) {
+        Ok((jar, visit)) => {
             forget(rt, site, &action);
             Ok(Response {
                 status: 200,
