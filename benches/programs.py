@@ -92,13 +92,13 @@ class Bench:
         return self.once("c", make)
 
     def installed(self):
-        """Where the library, cookie.h and the wheel are: in PREFIX, or where tools/c/install puts them once."""
+        """Where the library, cookie.h and the wheel are: in PREFIX, or where tools/install puts them once."""
         def make():
             if "PREFIX" not in os.environ:
                 is_proved = all(map(toolchain.is_built, set(toolchain.crates_below("cookie_c")) - {"cookie_c"}))
                 os.environ["PREFIX"] = str(self.work / "prefix")
                 words = ["--proved"] if is_proved else []
-                toolchain.run_in(toolchain.ROOT, toolchain.ROOT / "tools/c/install", *words, os.environ["PREFIX"])
+                toolchain.run_in(toolchain.ROOT, toolchain.ROOT / "tools/install", *words, os.environ["PREFIX"])
             return Path(os.environ["PREFIX"]).resolve()
 
         return self.once("prefix", make)

@@ -282,9 +282,8 @@ def counted(python, folder, environment):
 
 def main(how, prefix):
     sys.path.insert(0, str(Path(__file__).resolve().parent.parent / "tools"))
-    import toolchain
+    import try_python
 
-    try_python = toolchain.module_of("try-python")
     try_python.install_packages()
     with tempfile.TemporaryDirectory() as folder:
         python = try_python.environment_with(Path(prefix), Path(folder))

@@ -4,7 +4,7 @@ import sys
 
 def build_wheel(*_: object, **__: object) -> None:
     sys.exit("deomigal isn't built from this folder: the wheel needs its library. Install the wheel in the project's folder "
-             "release, as README.md says, or build one there with tools/c/install PREFIX. Without a wheel these sources run "
+             "release, as README.md says, or build one there with tools/install PREFIX. Without a wheel these sources run "
              "with PYTHONPATH=python, and DEOMIGAL_LIBRARY names libcookie_c.so.")
 
 

@@ -9,9 +9,8 @@ TOP = Path(__file__).resolve().parent.parent
 sys.path.append(str(TOP / "tools"))
 # A program of Python that a play starts has its own modules.
 os.environ.pop("PYTHONPATH", None)
-import toolchain
+import try_python
 
-try_python = toolchain.module_of("try-python")
 counts = {True: 0, False: 0}
 
 
@@ -32,6 +31,6 @@ def run(*command, **options):
 
 
 def environment_of(words, folder, modules, programs):
-    """A Python with Debian's packages, which are installed, and the wheel that the words name or tools/c/install makes."""
+    """A Python with Debian's packages, which are installed, and the wheel that the words name or tools/install makes."""
     try_python.install_packages(modules, programs)
     return try_python.environment_with(words.wheel, folder)

@@ -3,7 +3,7 @@
 In the copy of the crates in which `tools/quick` makes its runs, each public function of a library first marks that it was
 called, by a function of C. There the programs run as they are stored, the rows of cookie_vectors among them, and the
 tests. It needs rt and a C compiler. The libraries that play rows are tests, so their calls aren't counted, nor is a
-conversion of an error (`From`): most come only out of memory. `tools/c/try` sees whether each export of cookie_c is called.
+conversion of an error (`From`): most come only out of memory. `tools/try` sees whether each export of cookie_c is called.
 
 The copy has a public function more, which nothing runs: it has to be named, and no other.
 """

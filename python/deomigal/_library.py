@@ -41,7 +41,7 @@ def library_at(path: str) -> ctypes.CDLL:
             why = f"deomigal's wheel is for Linux on x86-64, and this is {' '.join(host)}"
             raise ImportError(f"{why}: use a container such as python:3.12-slim.") from error
         raise ImportError(
-            f"deomigal lacks its library: {error}. In the project, tools/c/install PREFIX makes a wheel that has it."
+            f"deomigal lacks its library: {error}. In the project, tools/install PREFIX makes a wheel that has it."
         ) from error
 
 
@@ -93,7 +93,7 @@ def __getattr__(name: str) -> Any:
 
 
 if call_named("cookie_version")() != VERSION:
-    raise ImportError("deomigal found another version of its library: install the wheel that tools/c/install makes")
+    raise ImportError("deomigal found another version of its library: install the wheel that tools/install makes")
 
 
 class OwnHandle(Handle):

@@ -28,7 +28,7 @@ def test_no_library(tmp_path):
     """The variable DEOMIGAL_LIBRARY names another library. If there is none, the error says how it is made."""
     words = {**os.environ, "DEOMIGAL_LIBRARY": str(tmp_path / "none.so")}
     done = subprocess.run([sys.executable, "-c", "import deomigal"], env=words, capture_output=True, text=True)
-    assert done.returncode == 1 and "tools/c/install" in done.stderr.splitlines()[-1]
+    assert done.returncode == 1 and "tools/install" in done.stderr.splitlines()[-1]
 
 
 MUSL = """

@@ -29,7 +29,8 @@ import tempfile
 import urllib.parse
 from pathlib import Path
 
-from shared import check, end, toolchain
+from shared import check, end
+import toolchain
 
 HERE = Path(__file__).resolve().parent
 SUFFIXES = Path("/usr/share/publicsuffix/public_suffix_list.dat")

@@ -8,7 +8,7 @@ It logs in with curl and with Chromium, counts over all workers, rotates and ret
 damaged cookies, and an attacker's session under names that another host of the domain can set.
 
 With --revocations it logs out under load instead, over two workers with SQLite and then with Redis (revocations.py).
-The package is that of `tools/c/install`, which it runs unless FILE is its wheel.
+The package is that of `tools/install`, which it runs unless FILE is its wheel.
 """
 
 import argparse
@@ -367,7 +367,7 @@ def play_damaged(site, count):
 
 def main():
     parser = argparse.ArgumentParser(prog="tests/play flask", description="Plays a Flask application with sessions.")
-    parser.add_argument("--wheel", type=Path, help="the wheel of the package; without it tools/c/install makes it")
+    parser.add_argument("--wheel", type=Path, help="the wheel of the package; without it tools/install makes it")
     parser.add_argument("--damaged", type=int, default=10_000, help="how many damaged cookies are sent")
     parser.add_argument("--revocations", action="store_true", help="log out under load, with SQLite and with Redis")
     parser.add_argument("--seconds", type=int, default=30, help="how long that is played with each")

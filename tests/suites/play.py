@@ -7,7 +7,7 @@ It plays Django's tests of sessions, and the tests of CPython, httpx and aiohttp
 has its reason. It prints its rows of the tables of python/README.md, and compares them with the page. Tests in our words
 are in python/tests.
 
-It gets the tests from Debian's sources, unless they are in FOLDER. The package is that of `tools/c/install`, which it runs
+It gets the tests from Debian's sources, unless they are in FOLDER. The package is that of `tools/install`, which it runs
 unless FILE is its wheel. No other host is asked.
 """
 import argparse
@@ -206,7 +206,7 @@ def shown(names):
 
 def main():
     parser = argparse.ArgumentParser(prog="tests/play suites", description="Plays others' tests with the package.")
-    parser.add_argument("--wheel", type=Path, help="the wheel of the package; without it tools/c/install makes it")
+    parser.add_argument("--wheel", type=Path, help="the wheel of the package; without it tools/install makes it")
     parser.add_argument("--sources", type=Path, help="a folder with Debian's sources of the tests; without it apt-get gets them")
     words = parser.parse_args()
     with tempfile.TemporaryDirectory(prefix="play-suites-") as folder:

@@ -1,13 +1,13 @@
-#!/usr/bin/env python3
-"""Shows that the rows of `cookie_vectors` can fail: the program plays a copy of data/ in which one answer of each file has an
-`x` at its end. It has to name exactly those rows, with file, line and title, the answer that is wrong now as expected and
-the one that was there as what came, and to count all other rows as right.
-
-`tools/rows-fail --all` does it with one answer of each row, so that no row may be right.
+"""Shows that the rows of `cookie_vectors` can fail, for `tools/quick --wrong-rows`: the program plays a copy of data/ in
+which one answer of each file has an `x` at its end, or with `--all` one of each row. It has to name exactly those rows, with
+file, line and title, the answer that is wrong now as expected and the one that was there as what came, and to count all
+other rows as right.
 """
-import pathlib, re, subprocess, sys, tempfile
+import pathlib, re, subprocess, tempfile
 
-CRATE = pathlib.Path(__file__).resolve().parent.parent / "crates/cookie_vectors"
+import toolchain
+
+CRATE = toolchain.ROOT / "crates/cookie_vectors"
 WRONG = re.compile(r"(\S+\.tsv):(\d+): (.*)\n    step:     .*\n    expected: (.*)\n    came:     (.*)\n")
 
 
@@ -59,15 +59,13 @@ def play(folder):
     return subprocess.run(words, cwd=CRATE, stdin=subprocess.DEVNULL, capture_output=True, text=True)
 
 
-def main(words):
-    if words not in ([], ["--all"]):
-        print(__doc__)
-        return 0
+def are_named(is_all):
+    """Whether each answer that was changed is named, and nothing else."""
     with tempfile.TemporaryDirectory() as folder:
         folder, count, wanted = pathlib.Path(folder), 0, []
         for path in sorted((CRATE / "data").iterdir()):
             (folder / path.name).write_bytes(path.read_bytes())
-            rows, named = change(folder / path.name, words == ["--all"])
+            rows, named = change(folder / path.name, is_all)
             count, wanted = count + rows, wanted + named
         run = play(folder)
     files = len({name for name, *_ in wanted})
@@ -80,7 +78,4 @@ def main(words):
     for fault in faults:
         print(fault)
     print(f"{files} files, {len(wanted)} answers: " + ("not each" if faults else "each") + " changed answer was named")
-    return 1 if faults else 0
-
-
-sys.exit(main(sys.argv[1:]))
+    return not faults

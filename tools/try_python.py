@@ -1,17 +1,5 @@
-#!/usr/bin/env python3
-"""Plays python/tests, the tests of the Python package, with a wheel.
-
-    tools/try-python [--suite SUITE] PREFIX [WORD..]
-
-PREFIX is where tools/c/install put the wheel, or the wheel. The words are for pytest, such as the tests to play; without
-any it plays all. It installs what they need of Debian's packages by apt-get, if it may, and makes a virtual environment
-with the wheel. A test of a framework that isn't there is skipped by name. With CI=true a skipped test fails.
-
-With --suite the frameworks are those of another suite of Debian's, such as trixie. They are unpacked, and not installed.
-
-The last line is `N passed, M failed`.
-"""
-import argparse
+"""Plays python/tests, the tests of the Python package, with a wheel, for `tools/try --python`. It installs what they need of
+Debian's packages by apt-get, if it may, and makes a virtual environment with the wheel."""
 import os
 import re
 import shutil
@@ -31,8 +19,6 @@ PACKAGES = {
 }
 # And by the program.
 PROGRAMS = {"redis-server": "redis-server", "curl": "curl", "openssl": "openssl", "pypy3": "pypy3", "musl-gcc": "musl-tools", "twine": "twine"}
-
-
 # What is taken of another suite: packages without machine code, and what they need.
 NEWER = """python3-flask python3-werkzeug python3-itsdangerous python3-jinja2 python3-markupsafe python3-click python3-blinker
     python3-flask-login python3-django python3-asgiref python3-sqlparse python3-starlette python3-anyio python3-httpx
@@ -98,10 +84,10 @@ def install_packages(modules=PACKAGES, programs=PROGRAMS):
 
 
 def environment_with(prefix, folder):
-    """A Python with Debian's packages and the wheel of the prefix. Without a prefix tools/c/install makes the wheel."""
+    """A Python with Debian's packages and the wheel of the prefix. Without a prefix tools/install makes the wheel."""
     if prefix is None:
         prefix = folder / "prefix"
-        subprocess.run([TOP / "tools/c/install", prefix], check=True)
+        subprocess.run([TOP / "tools/install", prefix], check=True)
     wheel = wheel_in(prefix.resolve())
     subprocess.run([PYTHON, "-m", "venv", "--system-site-packages", folder / "venv"], check=True)
     python = folder / "venv/bin/python"
@@ -115,7 +101,7 @@ def wheel_in(prefix):
         return prefix
     found = list(prefix.glob("share/deomigal/*.whl"))
     if len(found) != 1:
-        sys.exit(f"try-python: {prefix} isn't a wheel, nor where tools/c/install put one")
+        sys.exit(f"try: {prefix} isn't a wheel, nor where tools/install put one")
     return found[0]
 
 
@@ -131,9 +117,7 @@ def play(python, words, path):
     environment = {**os.environ, "PYTHONPATH": str(path or ""), "PYTHONDONTWRITEBYTECODE": "1"}
     environment.pop("DEOMIGAL_LIBRARY", None)
     command = [python, "-m", "pytest", "-p", "no:cacheprovider", "-q", "-rsfE", "--disable-warnings", *words]
-    played = subprocess.Popen(
-        command, cwd=TOP, env=environment, stdout=subprocess.PIPE, text=True
-    )
+    played = subprocess.Popen(command, cwd=TOP, env=environment, stdout=subprocess.PIPE, text=True)
     last = ""
     for line in played.stdout:
         print(line, end="", flush=True)
@@ -144,25 +128,17 @@ def play(python, words, path):
     return counts.get("passed", 0), failed, counts.get("skipped", 0)
 
 
-def main():
-    parser = argparse.ArgumentParser(prog="tools/try-python", description="Plays the tests of the Python package.")
-    parser.add_argument("--suite", help="take the frameworks of this suite of Debian's, such as trixie")
-    parser.add_argument("prefix", type=Path, help="where tools/c/install put the wheel, or the wheel")
-    parser.add_argument("words", nargs=argparse.REMAINDER, help="for pytest, such as the tests to play")
-    words = parser.parse_args()
-    wheel = wheel_in(words.prefix.resolve())
+def tried(prefix, words, suite=None):
+    """Plays the tests that the words say, or all, with the frameworks of a suite. Returns whether all passed."""
+    wheel = wheel_in(prefix.resolve())
     install_packages()
     with tempfile.TemporaryDirectory(prefix="try-python-") as folder:
         folder = Path(folder)
-        path = packages_of(words.suite, folder / "suite") if words.suite else None
-        passed, failed, skipped = play(environment_with(wheel, folder), words.words or ["python/tests"], path)
+        path = packages_of(suite, folder / "suite") if suite else None
+        passed, failed, skipped = play(environment_with(wheel, folder), words or ["python/tests"], path)
         failed += not is_described(wheel)
     if skipped and os.environ.get("CI") == "true":
         print(f"{skipped} skipped tests fail, since CI is true")
         failed += skipped
-    print(f"{passed} passed, {failed} failed")
-    sys.exit(bool(failed or not passed))
-
-
-if __name__ == "__main__":
-    main()
+    print(f"{passed} passed, {failed} failed", flush=True)
+    return bool(passed and not failed)
