@@ -9,10 +9,10 @@ The copy has a public function more, which nothing runs: it has to be named, and
 """
 import os, re, shutil
 
+import sources
 import toolchain
 
 ROOT = toolchain.ROOT
-shows = toolchain.module_of("shows")
 # What nothing runs: the call, the file that has it in the copy, and its text.
 PLANTED = "cookie_date::is_never_run", "crates/cookie_date/src/lib.rt", "pub fn is_never_run() {}"
 MARKING = """\
@@ -65,11 +65,12 @@ def is_counted(function):
 
 def mark(room):
     """Has each public function of the copy's libraries mark that it is called. Returns the names of the calls."""
-    shows.ROOT, calls = room, []
+    calls = []
     libraries = {path.parent.parent.name for path in room.glob("crates/*/src/lib.rt")}
     for crate in sorted(libraries - toolchain.players() - {"cookie_c"}):
-        for file, (text, functions) in shows.Crate(crate).files.items():
-            parts, at = [], 0
+        read = sources.Crate(crate, room)
+        for file, functions in read.by_file.items():
+            text, parts, at = read.sources[file].text, [], 0
             for function in filter(is_counted, functions):
                 parts += [text[at : function.body], f" called::mark({len(calls)});"]
                 at = function.body

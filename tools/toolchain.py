@@ -30,8 +30,7 @@ def module_of(name):
 def help_if_asked():
     """Prints the head of the program that runs, and ends it, if its words have `--help` or `-h`."""
     if {"-h", "--help"} & {*sys.argv[1:]}:
-        head = re.match(r'#![^\n]*\n(?:"""([^"]*)"""|((?:#[^\n]*\n)+))', pathlib.Path(sys.argv[0]).read_text())
-        print((head[1] or re.sub(r"^# ?", "", head[2], flags=re.M)).strip())
+        print(sys.modules["__main__"].__doc__.strip())
         sys.exit()
 
 

@@ -1,17 +1,13 @@
-#!/usr/bin/env python3
-# Measures the pages: words (of code too, but no bars of tables, and no signatures that tools/calling quotes), mean and
-# longest sentence, and words that plain English avoids. With names of pages it also prints each sentence of more than 35
-# words and each avoided word, with its line. Without names it also prints the avoided words in the comments of the
-# crates and of their specs. It changes nothing and never fails.
-import pathlib, re, subprocess, sys
+"""Measures the pages, by `tools/pages prose [PAGE..]`: words (of code too, but no bars of tables, and no signatures that
+CALLING.md quotes), mean and longest sentence, and words that plain English avoids. With names of pages it also prints each
+sentence of more than 35 words and each avoided word, with its line. Without names it also prints the avoided words in the
+comments of the crates and of their specs. It changes nothing and never fails."""
+import re
+import subprocess
 
-import toolchain
+from sources import ROOT
 
-toolchain.help_if_asked()
-
-ROOT = pathlib.Path(__file__).resolve().parent.parent
 LONGEST = 35
-
 # What is avoided, and what to write.
 AVOIDED = {
     r"want(?:s|ed)? of memory|for want of|want(?:s|ed)? memory": "out of memory",
@@ -28,9 +24,9 @@ AVOIDED = {
 }
 
 
-def pages():
-    listed = subprocess.run(["git", "ls-files", "*.md"], cwd=ROOT, capture_output=True, text=True, check=True).stdout.split()
-    return [name for name in listed if name.endswith(".md")]
+def tracked(*patterns):
+    listed = subprocess.run(["git", "ls-files", *patterns], cwd=ROOT, capture_output=True, text=True, check=True)
+    return listed.stdout.split()
 
 
 def prose(text):
@@ -61,6 +57,12 @@ def sentences(lines):
         yield begun, words
 
 
+def avoided_in(line):
+    """The avoided words of a line, each with what to write."""
+    for pattern, better in AVOIDED.items():
+        yield from ((found[0], better) for found in re.finditer(rf"\b(?:{pattern})\b", line))
+
+
 def measure(name, is_whole):
     text = (ROOT / name).read_text()
     if name.endswith("/CALLING.md"):
@@ -68,12 +70,7 @@ def measure(name, is_whole):
     lines = list(prose(text))
     found = list(sentences(lines))
     lengths = [len(words) for _, words in found] or [0]
-    avoided = [
-        (number, match[0], better)
-        for number, line in lines
-        for pattern, better in AVOIDED.items()
-        for match in re.finditer(rf"\b(?:{pattern})\b", line)
-    ]
+    avoided = [(number, word, better) for number, line in lines for word, better in avoided_in(line)]
     words = sum(bool(re.search(r"\w", word)) for word in text.split())
     print(f"{words:6} words, mean {sum(lengths) / len(lengths):4.1f}, longest {max(lengths):3}, "
           f"avoided {len(avoided):3}  {name}")
@@ -88,18 +85,15 @@ def measure(name, is_whole):
 
 def comments():
     """The avoided words in comments of the crates, each with its file and line."""
-    listed = subprocess.run(["git", "ls-files", "crates/*.rt", "crates/*.h", "crates/*/specs/*.antt"], cwd=ROOT, capture_output=True, text=True, check=True)
-    for name in listed.stdout.split():
+    for name in tracked("crates/*.rt", "crates/*.h", "crates/*/specs/*.antt"):
         for number, line in enumerate((ROOT / name).read_text().splitlines(), 1):
             # What is quoted, as `lends`, is a name.
-            text = re.sub(r"`[^`]*`", "", line)
-            for pattern, better in AVOIDED.items():
-                for found in re.finditer(rf"\b(?:{pattern})\b", text) if re.match(r"\s*(?://|/?\*|--)", line) else ():
-                    yield f"{name}:{number}: {found[0]}: {better}"
+            for word, better in avoided_in(re.sub(r"`[^`]*`", "", line)) if re.match(r"\s*(?://|/?\*|--)", line) else ():
+                print(f"{name}:{number}: {word}: {better}")
 
 
-chosen = sys.argv[1:]
-total = sum(measure(name, bool(chosen)) for name in chosen or pages())
-print(f"{total:6} words in all")
-if not chosen:
-    print("".join(f"{line}\n" for line in comments()), end="")
+def main(chosen):
+    total = sum(measure(name, bool(chosen)) for name in chosen or tracked("*.md"))
+    print(f"{total:6} words in all")
+    if not chosen:
+        comments()

@@ -1,17 +1,12 @@
-#!/usr/bin/env python3
-"""Draws docs/explain.png from the stored run of `cookie_explain`. Needs Debian's chromium.
-
-    tools/pictures
-"""
+"""Draws docs/explain.png from the stored run of `cookie_explain`, by `tools/pages picture`. It needs Debian's chromium."""
 import html
 import pathlib
 import subprocess
 import sys
 import tempfile
 
-import toolchain
+from sources import ROOT
 
-ROOT = pathlib.Path(__file__).resolve().parent.parent
 PAGE = """<!doctype html><meta charset="utf-8"><style>
 body {{ margin: 0; background: #1e2227; color: #d6dae0; font: 14px/1.5 "DejaVu Sans Mono", monospace; }}
 pre {{ margin: 0; padding: 14px 18px; white-space: pre-wrap; }}
@@ -53,9 +48,5 @@ def draw(name, command, lines):
 
 
 def main():
-    toolchain.help_if_asked()
     address = lines_of("crates/cookie_explain/args", 1, 1)[0]
     draw("explain", f"curl -si {address} | cookie_explain {address}", lines_of("crates/cookie_explain/stdout", 2, 16))
-
-
-main()

@@ -1,15 +1,11 @@
-#!/usr/bin/env python3
-# Compares crates/cookie_c/cookie.h with the exports of that crate: each function with its parameters, each struct with
-# its fields, each status with its number, and the number of the header. It also looks whether cookie_random.h draws the
-# bytes of each call that takes a nonce, an id or seeds, with the call's other parameters. It says what differs, and
-# fails.
-import pathlib, re, sys
+"""Compares crates/cookie_c/cookie.h with the exports of that crate, by `tools/pages header`: each function with its parameters,
+each struct with its fields, each status with its number, and the number of the header. It also looks whether
+cookie_random.h draws the bytes of each call that takes a nonce, an id or seeds, with the call's other parameters."""
+import re
 
-import toolchain
+from sources import ROOT
 
-ROOT = pathlib.Path(__file__).resolve().parent.parent
 CRATE = ROOT / "crates/cookie_c"
-
 NUMBERS = {
     "u8": "uint8_t", "u16": "uint16_t", "u32": "uint32_t", "u64": "uint64_t", "usize": "size_t",
     "i8": "int8_t", "i16": "int16_t", "i32": "int32_t", "i64": "int64_t", "isize": "ptrdiff_t", "bool": "bool",
@@ -77,7 +73,7 @@ def declared(header):
     """The same of the header."""
     yield from re.findall(r"^#define (COOKIE_VERSION \d+)", header, re.M)
     text = re.sub(r"/\*.*?\*/|^\s*#[^\n]*", "", header, flags=re.S | re.M)
-    text = " ".join(text.split()).replace(" }", " }")
+    text = " ".join(text.split())
     for inside in re.findall(r"enum cookie_status {([^}]*)}", text):
         for name, number in re.findall(r"(\w+) = (\d+)", inside):
             yield f"{name} = {number}"
@@ -100,23 +96,18 @@ def drawn(header):
         yield " ".join(line.split()) + ";"
 
 
-def main():
-    toolchain.help_if_asked()
-    sources = sorted((CRATE / "src").rglob("*.rt"))
-    here = [line for source in sources for line in exported(source.read_text())]
-    there = list(declared((CRATE / "cookie.h").read_text()))
-    faults = [f"not in cookie.h: {line}" for line in here if line not in there]
-    faults += [f"in cookie.h alone: {line}" for line in there if line not in here]
-    faults += [f"twice: {line}" for line in sorted(set(there)) if there.count(line) > 1]
+def faults(is_check):
+    """What differs."""
+    header = (CRATE / "cookie.h").read_text()
+    here = [line for source in sorted((CRATE / "src").rglob("*.rt")) for line in exported(source.read_text())]
+    there = list(declared(header))
+    yield from (f"not in cookie.h: {line}" for line in here if line not in there)
+    yield from (f"in cookie.h alone: {line}" for line in there if line not in here)
+    yield from (f"twice: {line}" for line in sorted(set(there)) if there.count(line) > 1)
     statuses = sum(line.startswith("COOKIE_") and " = " in line for line in there)
-    texts = re.search(r"texts\[\] = {(.*?)};", (CRATE / "cookie.h").read_text(), re.S)[1].count('",\n')
-    faults += [f"{statuses} statuses have {texts} texts"] * (statuses != texts)
+    texts = re.search(r"texts\[\] = {(.*?)};", header, re.S)[1].count('",\n')
+    if statuses != texts:
+        yield f"{statuses} statuses have {texts} texts"
     needed, made = set(drawing(there)), set(drawn((CRATE / "cookie_random.h").read_text()))
-    faults += [f"not in cookie_random.h: {line}" for line in needed - made]
-    faults += [f"in cookie_random.h alone: {line}" for line in made - needed]
-    if faults:
-        sys.exit("\n".join(["header: the headers aren't what the crate exports"] + faults))
-    print(f"header: {len(here)} declarations of cookie.h are the crate's; cookie_random.h draws for {len(made)} calls")
-
-
-main()
+    yield from (f"not in cookie_random.h: {line}" for line in sorted(needed - made))
+    yield from (f"in cookie_random.h alone: {line}" for line in sorted(made - needed))
