@@ -206,22 +206,28 @@ class Crate:
 
 
 class Edit:
-    """A planted bug: what it shows, as call, clause and words, and the functions that it changes."""
+    """A planted bug: what it shows, as call, clause and words; the lines that it changes, as file, old and new; and the
+    functions that these are in."""
 
     def __init__(self, crate, path):
         self.crate, self.path, self.name = crate, path, path.stem
-        self.shown, self.unread, self.changed, file = [], [], set(), ""
+        self.shown, self.unread, self.pairs, self.changed, file, old = [], [], [], set(), "", ""
         for line in path.read_text().splitlines():
-            if line.startswith("# shows:"):
+            head, _, rest = line.partition(":")
+            rest = rest.removeprefix(" ")
+            if head == "# shows":
                 found = SHOWS.fullmatch(line)
                 if found and found[1] == crate.name:
                     self.shown.append((found[2], found[3], found[4]))
                 else:
                     self.unread.append(line)
-            elif line.startswith("file: "):
-                file = line.removeprefix("file: ").strip()
-            elif line.startswith("old: ") and file in crate.sources:
-                self.changed.update(self.functions_at(file, line.removeprefix("old: ")))
+            elif head == "file":
+                file = rest.strip()
+            elif head == "old":
+                old = rest
+                self.changed |= self.functions_at(file, old) if file in crate.sources else set()
+            elif head == "new":
+                self.pairs.append((file, old, rest))
 
     def functions_at(self, file, old):
         at = self.crate.sources[file].text.find(old) + len(old) - len(old.lstrip())

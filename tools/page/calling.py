@@ -7,36 +7,32 @@ import textwrap
 
 from sources import ROOT, crate_of
 
-# Each library, and the crate, the file and the function that show a call of it.
-CALLERS = {
-    "cookie_date": ("cookie_examples", "dates", "week_after"),
-    "cookie_core": ("cookie_examples", "reading", "name_and_value"),
-    "cookie_browser": ("cookie_examples", "refusal", "refusal_of"),
-    "cookie_crypt": ("cookie_examples", "sealing", "comes_back"),
-    "cookie": ("cookie_examples", "session", "user_of"),
-    "cookie_session": ("cookie_examples", "handler", "handle"),
-    "cookie_client": ("cookie_examples", "following", "follow"),
-    "cookie_agent": ("cookie_examples", "agents", "next_header"),
-    "cookie_http": ("cookie_examples", "headers", "jar_of"),
-    "cookie_theorems": ("cookie_examples", "carrying", "carry"),
-    "session_revocations": ("login", "main", "open"),
-}
-# What each page quotes: calls, each with its clauses, and types, each with what it is and what its traits say.
+# Each library: the function that shows a call of it, as the file and the name in cookie_examples, or in another crate; and what
+# its page quotes, which is calls, each with its clauses, and types, each with what it is and what its traits say.
 QUOTED = {
-    "cookie_date": "read_date days_after DateText",
-    "cookie_core": "Cookie::parse Cookie::new Cookie::into_owned Cookie::make_removal Cookie::encoded",
-    "cookie_browser": "Received::of refused_by Refusal Suffixes::new Suffixes::is_public",
-    "cookie_crypt": "Gcm::new Gcm::seal_in_place PreparedGcm::seal_in_place Mac::code are_equal",
-    "cookie": """CookieJar::with_originals CookieJar::get CookieJar::add CookieJar::remove
-        CookieJar::set_cookie_texts""",
-    "cookie_session": "Sessions Sessions::open Sessions::open_unrevoked Sessions::save",
-    "cookie_client": "JarCall JarCall::is_fit Played mirror",
-    "cookie_agent": "Site::new Agent::new Agent::verdict Verdict Agent::read Agent::header",
-    "cookie_http": "jar_from_headers with_headers append_delta remove_as_set",
-    "session_revocations": """SqliteRevocations SqliteRevocations::new SqliteRevocations::is_revoked
-        SqliteRevocations::revoke SqliteRevocations::forget MemoryRevocations MemoryRevocations::new
-        MemoryRevocations::is_revoked MemoryRevocations::revoke MemoryRevocations::forget""",
-    "cookie_theorems": "Exchanged exchange AgentRequest Visited visits open_for_agent",
+    "cookie_date": ("dates week_after", "read_date days_after DateText"),
+    "cookie_core": (
+        "reading name_and_value", "Cookie::parse Cookie::new Cookie::into_owned Cookie::make_removal Cookie::encoded"
+    ),
+    "cookie_browser": ("refusal refusal_of", "Received::of refused_by Refusal Suffixes::new Suffixes::is_public"),
+    "cookie_crypt": (
+        "sealing comes_back", "Gcm::new Gcm::seal_in_place PreparedGcm::seal_in_place Mac::code are_equal"
+    ),
+    "cookie": (
+        "session user_of",
+        "CookieJar::with_originals CookieJar::get CookieJar::add CookieJar::remove CookieJar::set_cookie_texts",
+    ),
+    "cookie_session": ("handler handle", "Sessions Sessions::open Sessions::open_unrevoked Sessions::save"),
+    "cookie_client": ("following follow", "JarCall JarCall::is_fit Played mirror"),
+    "cookie_agent": ("agents next_header", "Site::new Agent::new Agent::verdict Verdict Agent::read Agent::header"),
+    "cookie_http": ("headers jar_of", "jar_from_headers with_headers append_delta remove_as_set"),
+    "cookie_theorems": ("carrying carry", "Exchanged exchange AgentRequest Visited visits open_for_agent"),
+    "session_revocations": (
+        "main open login",
+        """SqliteRevocations SqliteRevocations::new SqliteRevocations::is_revoked SqliteRevocations::revoke
+        SqliteRevocations::forget MemoryRevocations MemoryRevocations::new MemoryRevocations::is_revoked
+        MemoryRevocations::revoke MemoryRevocations::forget""",
+    ),
 }
 # The clauses of these calls that their page leaves out: the crate's README has them.
 LEFT_OUT = {
@@ -193,10 +189,9 @@ def wrapped(lines):
     return "\n".join(text).strip("\n")
 
 
-def caller(name):
+def caller(module, function, user="cookie_examples"):
     """Where the caller of a crate's page is, its file, and links to its proof files. A program's is only named: the guide
     has it."""
-    user, module, function = CALLERS[name]
     if module == "main":
         return [f"It is `{function}` in `crates/{user}/src/main.rt`."]
     text = (ROOT / f"crates/{user}/src/{module}.rt").read_text()
@@ -208,12 +203,12 @@ def caller(name):
 
 def faults(is_check):
     """Writes the pages, or yields those that aren't current."""
-    for name in CALLERS:
+    for name, (shows, quoted) in QUOTED.items():
         path, crate = ROOT / "crates" / name / "CALLING.md", crate_of(name)
         text = path.read_text()
         written = PAGE.format(
-            written=text.split("## A caller")[0].rstrip(), caller="\n\n".join(caller(name)),
-            contracts=wrapped(contracts(crate, QUOTED[name].split())), calls=wrapped(every_call(crate)),
+            written=text.split("## A caller")[0].rstrip(), caller="\n\n".join(caller(*shows.split())),
+            contracts=wrapped(contracts(crate, quoted.split())), calls=wrapped(every_call(crate)),
         )
         if is_check and text != written:
             yield f"{path.relative_to(ROOT)}: not current; run tools/pages"

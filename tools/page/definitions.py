@@ -79,9 +79,10 @@ class Specs:
         places = {}
         for name in self.crates:
             crate = crate_of(name)
-            for file, source in sorted(crate.sources.items()):
+            for file in sorted(crate.sources, key=lambda file: crate.sources[file].path):
+                source = crate.sources[file]
                 words, files = self.imports(source.text)
-                for call, said in said_in(crate, file):
+                for call, said in sorted(said_in(crate, file), key=lambda pair: pair[1].at):
                     for word in words_in(said.text, words, files):
                         places.setdefault(word, f"crates/{name}/{file}:{source.line_at(said.at)}: {call} names")
         return places
