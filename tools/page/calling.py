@@ -7,8 +7,8 @@ import textwrap
 
 from sources import ROOT, crate_of
 
-# Each library: the function that shows a call of it, as the file and the name in cookie_examples, or in another crate; and what
-# its page quotes, which is calls, each with its clauses, and types, each with what it is and what its traits say.
+# Each library: the function that shows a call of it, as the file and the name in cookie_examples, or in another crate;
+# and what its page quotes: calls, each with its clauses, and types, each with what it is and what its traits say.
 QUOTED = {
     "cookie_date": ("dates week_after", "read_date days_after DateText"),
     "cookie_core": (
@@ -120,7 +120,8 @@ def model_of(crate, name):
 
 
 def implementations(crate, name):
-    return [(source, item) for source, item in crate.items() if item.words.startswith("impl") and item.type_and_trait()[0] == name]
+    found = ((source, item) for source, item in crate.items() if item.words.startswith("impl"))
+    return [(source, item) for source, item in found if item.type_and_trait()[0] == name]
 
 
 def contract(crate, name):

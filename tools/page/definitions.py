@@ -110,8 +110,9 @@ class Specs:
             if crate not in self.crates or not line.startswith("| ") or len(cells) < 4 or cells[2] == "File":
                 continue
             names = [name.strip() for name in cells[2].split(",")]
-            faults += [f"{PAGE}:{number}: {crate} has no specs/{name}.antt" for name in names if (crate, name) not in self.files]
             files = [self.files[crate, name] for name in names if (crate, name) in self.files]
+            absent = [name for name in names if (crate, name) not in self.files]
+            faults += [f"{PAGE}:{number}: {crate} has no specs/{name}.antt" for name in absent]
             for word in re.findall(r"`([^\s`]+)[^`]*`", cells[0]):
                 of = [(file, word) for file in files if word in file.line]
                 found.update(of)

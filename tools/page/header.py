@@ -1,5 +1,5 @@
-"""Compares crates/cookie_c/cookie.h with the exports of that crate, by `tools/pages header`: each function with its parameters,
-each struct with its fields, each status with its number, and the number of the header. It also looks whether
+"""Compares crates/cookie_c/cookie.h with the exports of that crate, by `tools/pages header`: each function with its
+parameters, each struct with its fields, each status with its number, and the number of the header. It also looks whether
 cookie_random.h draws the bytes of each call that takes a nonce, an id or seeds, with the call's other parameters."""
 import re
 

@@ -1,14 +1,15 @@
 """What pages and comments quote by hand, by `tools/pages quotes`.
 
-README.md, docs/GUIDE.md, CONTRIBUTING.md and each crate's README.md: each block of Rust code must be in a crate, line by line
-but for comments and empty lines, and each block of what a program printed in a stored run. crates/CRATE/src: the function
-that an "Example:" names must be in that file, and call what the comment is of.
+README.md, docs/GUIDE.md, CONTRIBUTING.md and each crate's README.md: each block of Rust code must be in a crate, line by
+line but for comments and empty lines, and each block of what a program printed in a stored run. crates/CRATE/src: the
+function that an "Example:" names must be in that file, and call what the comment is of.
 """
 import re
 
 from sources import ROOT, masked
 
-PAGES = ["README.md", "docs/GUIDE.md", "CONTRIBUTING.md", *sorted(str(path.relative_to(ROOT)) for path in ROOT.glob("crates/*/README.md"))]
+OF_CRATES = sorted(str(path.relative_to(ROOT)) for path in ROOT.glob("crates/*/README.md"))
+PAGES = ["README.md", "docs/GUIDE.md", "CONTRIBUTING.md", *OF_CRATES]
 EXAMPLE = re.compile(
     r"/// Example: `(\w+)` in (\S+\.rt)\.\n(?:\s*(?:///|#\[)[^\n]*\n)*\s*(?:pub )?(?:const )?(?:fn|struct|enum|trait) (\w+)"
 )
@@ -44,7 +45,8 @@ def missing_examples(path, text):
 def faults(is_check):
     """What is quoted and isn't there."""
     texts = {path: path.read_text() for path in sorted(ROOT.glob("crates/*/src/**/*.rt"))}
-    sources, runs = [code_lines(text) for text in texts.values()], [path.read_text() for path in ROOT.glob("crates/*/stdout")]
+    sources = [code_lines(text) for text in texts.values()]
+    runs = [path.read_text() for path in ROOT.glob("crates/*/stdout")]
     for page in PAGES:
         yield from (f"{page}: in no crate and no stored run: {line}" for line in unquoted(page, sources, runs))
     for path, text in texts.items():
