@@ -4,7 +4,7 @@ ghost use Rattle.cookie_browser.specs.ReceivedCode.{received_view};
 ghost use Rattle.cookie_browser.specs.RefusedCode.{kept_view, request_view};
 ghost use Rattle.cookie_browser.specs.Storage.{first_refusal};
 
-use anyhow::{Context, Result};
+use anyhow::Result;
 use cookie_agent::Site;
 use cookie_browser::{BrowserRequest, KeptCookie, Received, Refusal, Suffixes, refused_by};
 use std::alloc::{AllocError, Global};
@@ -29,16 +29,19 @@ pub fn refusal_of(
 
 pub fn print(rt: &HostRuntime) -> Result<()> {
     let site = Site::new(rt.alloc(), "www.example.com", "/shop/cart", true)?;
-    let (request, suffixes) = (site.request(), Suffixes::new(rt.alloc(), b"com\n")?);
-    let received = Received::of(b"cart=3; Domain=com")
-        .ok()
-        .context("no cookie")?;
-    let domain = received
-        .attributes
-        .bare_domain()
-        .to_ascii_lowercase(rt.alloc())?;
-    let new = KeptCookie::of(&suffixes, &request, &received, domain.as_slice());
-    let refusal = refusal_of(rt.alloc(), &suffixes, &request, &[], &received, &new)?;
-    println!(rt; "refused: {}", refusal.context("stored")?)?;
+    let suffixes = Suffixes::new(rt.alloc(), b"com\n")?;
+    print_refusal(rt, &suffixes, &site, b"cart=3; Domain=com")
+}
+
+fn print_refusal(rt: &HostRuntime, suffixes: &Suffixes, site: &Site, text: &[u8]) -> Result<()> {
+    let (alloc, request) = (rt.alloc(), site.request());
+    let Ok(received) = Received::of(text) else {
+        return Ok(());
+    };
+    let domain = received.attributes.bare_domain().to_ascii_lowercase(alloc)?;
+    let new = KeptCookie::of(suffixes, &request, &received, domain.as_slice());
+    if let Some(refusal) = refusal_of(alloc, suffixes, &request, &[], &received, &new)? {
+        println!(rt; "refused: {refusal}")?;
+    }
     Ok(())
 }

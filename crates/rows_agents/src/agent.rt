@@ -96,23 +96,43 @@ impl<'r> Agents<'r> {
         step.shown(saved.text.get(head..)?)
     }
 
-    // Makes requests of a new agent, each of words such as `0 http://example.com/ | add a=1`. Returns the headers.
+    // Makes four requests of a new agent, each of words such as `0 http://example.com/ | add a=1`. Returns the headers.
     fn visits(&self, step: Step<'_>) -> Answer {
         let key = test_key();
-        let parts = parts_of(step, &key)?;
-        let mut requests = Vec::new(step.alloc);
-        for part in &parts {
-            let request = AgentRequest {
-                site: &part.site,
-                calls: &part.calls,
-                moment: part.moment,
-            };
-            requests.push(request).ok()?;
+        self.visits_under(step, &key)
+    }
+
+    fn visits_under<'k>(&self, step: Step<'k>, key: &'k Key) -> Answer {
+        let alloc = step.alloc;
+        let parts = parts_of(step, key)?;
+        match parts.as_slice() {
+            [one, two, three, four] => {
+                let requests = [
+                    AgentRequest {
+                        site: &one.site,
+                        calls: one.calls.as_slice(),
+                        moment: one.moment,
+                    },
+                    AgentRequest {
+                        site: &two.site,
+                        calls: two.calls.as_slice(),
+                        moment: two.moment,
+                    },
+                    AgentRequest {
+                        site: &three.site,
+                        calls: three.calls.as_slice(),
+                        moment: three.moment,
+                    },
+                    AgentRequest {
+                        site: &four.site,
+                        calls: four.calls.as_slice(),
+                        moment: four.moment,
+                    },
+                ];
+                headers_of(step, &visits(alloc, self.suffixes, &requests, &[]).ok()?)
+            }
+            _ => None,
         }
-        headers_of(
-            step,
-            &visits(step.alloc, self.suffixes, &requests, &[]).ok()?,
-        )
     }
 
     // Makes a request with these calls, each of which has to be accepted.
@@ -272,7 +292,7 @@ struct Asked<'k> {
 }
 
 // The requests of the words, each as `0 http://example.com/ | add a=1`.
-fn parts_of<'k>(step: Step<'_>, key: &'k Key) -> Option<Vec<Asked<'k>>> {
+fn parts_of<'k>(step: Step<'k>, key: &'k Key) -> Option<Vec<Asked<'k>>> {
     let mut parts = Vec::new(step.alloc);
     for words in step.words.split(" || ") {
         let part = part_of(step.with_words(words), key)?;
@@ -281,7 +301,7 @@ fn parts_of<'k>(step: Step<'_>, key: &'k Key) -> Option<Vec<Asked<'k>>> {
     Some(parts)
 }
 
-fn part_of<'k>(step: Step<'_>, key: &'k Key) -> Option<Asked<'k>> {
+fn part_of<'k>(step: Step<'k>, key: &'k Key) -> Option<Asked<'k>> {
     let (front, calls) = step.halves();
     let (seconds, url) = front.words.split_once(' ')?;
     let site = site_of(step.alloc, url)?;

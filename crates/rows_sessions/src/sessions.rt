@@ -16,7 +16,7 @@ use rows_browsers::site_of;
 use rows_children::test_key;
 use rows_clients::calls_of;
 use rows_jars::Jars;
-use rows_sites::{Visitor, done_or_why, started, told, visit_answer};
+use rows_sites::{Visitor, done_or_why, told};
 use std::alloc::Global;
 
 /// A visitor, the jar of a request, a client and a user agent.
@@ -54,7 +54,7 @@ impl<'s> Visitors<'s> {
         let before = format!(in step.alloc; "{:?}", self.jars.jar).ok()?;
         let answer = match step.call {
             "save" | "keep" | "end" => self.change_jar(step)?,
-            _ => self.visit(step)?,
+            _ => self.visitor.visit_with(step, &mut self.jars.jar)?,
         };
         let after = format!(in step.alloc; "{:?}", self.jars.jar).ok()?;
         let is_done = matches!(answer.as_str(), "done" | "saved" | "ended");
@@ -78,23 +78,6 @@ impl<'s> Visitors<'s> {
         }
     }
 
-    // Opens the visit of a `Cookie` field, saves the visit if needed, or logs out by it.
-    fn visit(&mut self, step: Step<'_>) -> Answer {
-        let (jar, visitor) = (&mut self.jars.jar, &mut self.visitor);
-        let (now, mut rng) = (visitor.now, visitor.rng());
-        let next = started(step.alloc, &visitor.site)?;
-        let (sessions, visit) = (visitor.site.sessions(), &mut visitor.visit);
-        match &mut visitor.revoked {
-            Some(revoked) => {
-                visit_answer(step, &sessions, jar, visit, next, now, &mut rng, revoked)
-            }
-            None => {
-                let never = &mut NeverRevoked;
-                visit_answer(step, &sessions, jar, visit, next, now, &mut rng, never)
-            }
-        }
-    }
-
     // The place of the key that opens the cookie of that name, and the cookie.
     fn find(&self, step: Step<'_>) -> Answer {
         let keys = self.visitor.site.sessions().keys;
@@ -107,22 +90,26 @@ impl<'s> Visitors<'s> {
 
     // Opens the sessions of requests, one after the other. `revoke_and_open` revokes the session first.
     fn open_requests(&mut self, step: Step<'_>) -> Answer {
-        let visitor = &mut self.visitor;
-        let (sessions, session) = (visitor.site.sessions(), visitor.visit.session());
-        match &mut visitor.revoked {
+        let mut revoked = self.visitor.revoked.take();
+        let (sessions, session) = (self.visitor.site.sessions(), self.visitor.visit.session());
+        let answer = match &mut revoked {
             Some(revoked) => open_requests(step, sessions, session, revoked),
             None => open_requests(step, sessions, session, &mut NeverRevoked),
-        }
+        };
+        self.visitor.revoked = revoked;
+        answer
     }
 
     // Does acts of the site's handlers.
     fn serve(&mut self, step: Step<'_>) -> Answer {
-        let visitor = &mut self.visitor;
-        let (mut rng, sessions) = (visitor.rng(), visitor.site.sessions());
-        match &mut visitor.revoked {
+        let mut revoked = self.visitor.revoked.take();
+        let (mut rng, sessions) = (self.visitor.rng(), self.visitor.site.sessions());
+        let answer = match &mut revoked {
             Some(revoked) => do_acts(step, sessions, &mut rng, revoked),
             None => do_acts(step, sessions, &mut rng, &mut NeverRevoked),
-        }
+        };
+        self.visitor.revoked = revoked;
+        answer
     }
 
     // Opens the session of the jar, or of the user agent's request.

@@ -7,5 +7,4 @@ mod tokens;
 mod visitor;
 mod visits;
 
-pub use visitor::{Visitor, done_or_why, started, told};
-pub use visits::visit_answer;
+pub use visitor::{Visitor, done_or_why, told};

@@ -2,9 +2,9 @@
 use crate::revoked::{Revoked, ids_of};
 use crate::site::Site;
 use crate::tokens::token_answer;
-use crate::visits::{ended, pass_text};
-use cookie::field_cookies;
-use cookie_session::{Opened, Revocations, Visit, second_of};
+use crate::visits::{ended, pass_text, visit_answer};
+use cookie::{CookieJar, field_cookies};
+use cookie_session::{NeverRevoked, Opened, Revocations, Visit, second_of};
 use hex::encode;
 use jiff::civil::DateTime;
 use rows::{Answer, Step, after, moment};
@@ -48,8 +48,8 @@ pub fn told(step: Step<'_>, text: Option<&str>) -> Answer {
     }
 }
 
-/// The visit of a request without a session, at the time of most rows.
-pub fn started(alloc: Global, site: &Site) -> Option<Visit> {
+// The visit of a request without a session, at the time of most rows.
+fn started(alloc: Global, site: &Site) -> Option<Visit> {
     Visit::start(alloc, &site.sessions(), moment(), &mut Sevens { left: 16 }).ok()
 }
 
@@ -95,6 +95,22 @@ impl Visitor {
             _ => return self.ask(step),
         }
         step.done()
+    }
+
+    /// Opens the visit of a `Cookie` field, saves the visit if needed, or logs out by it, with the jar of the request.
+    pub fn visit_with(&mut self, step: Step<'_>, jar: &mut CookieJar) -> Answer {
+        let (now, mut rng) = (self.now, self.rng());
+        let next = started(step.alloc, &self.site)?;
+        let (sessions, visit) = (self.site.sessions(), &mut self.visit);
+        match &mut self.revoked {
+            Some(revoked) => {
+                visit_answer(step, &sessions, jar, visit, next, now, &mut rng, revoked)
+            }
+            None => {
+                let never = &mut NeverRevoked;
+                visit_answer(step, &sessions, jar, visit, next, now, &mut rng, never)
+            }
+        }
     }
 
     // Starts a new session, or the same one anew, with its texts or without.
