@@ -78,13 +78,17 @@ def words_of(crate):
     return [*words, "--antt-project", folder / "rattle/logic/antt-project.json", "--logic-built", folder / "logic_built"]
 
 
+def last_change(crate):
+    """When a file was last changed that the crate's library is made from."""
+    files = [path for part in PARTS for path in (ROOT / "crates" / crate / part).rglob("*") if path.is_file()]
+    return max(path.stat().st_mtime for path in files)
+
+
 def is_built(crate):
     """Whether the crate's library is in its folder out/, and was put there after the last change of what it is made from.
     `rt ci` links libraries that it made before, which changes the time of their status and no other."""
-    folder = ROOT / "crates" / crate
-    rlib = folder / "out/rlib" / f"{crate}.rlib/format"
-    files = [path for part in PARTS for path in (folder / part).rglob("*") if path.is_file()]
-    return rlib.exists() and all(path.stat().st_mtime <= rlib.stat().st_ctime for path in files)
+    rlib = ROOT / "crates" / crate / "out/rlib" / f"{crate}.rlib/format"
+    return rlib.exists() and last_change(crate) <= rlib.stat().st_ctime
 
 
 def sum_of(*paths):
