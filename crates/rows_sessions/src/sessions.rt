@@ -91,7 +91,8 @@ impl<'s> Visitors<'s> {
     // Opens the sessions of requests, one after the other. `revoke_and_open` revokes the session first.
     fn open_requests(&mut self, step: Step<'_>) -> Answer {
         let mut revoked = self.visitor.revoked.take();
-        let (sessions, session) = (self.visitor.site.sessions(), self.visitor.visit.session());
+        let visitor = &self.visitor;
+        let (sessions, session) = (visitor.site.sessions(), visitor.visit.session());
         let answer = match &mut revoked {
             Some(revoked) => open_requests(step, sessions, session, revoked),
             None => open_requests(step, sessions, session, &mut NeverRevoked),
