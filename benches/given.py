@@ -67,7 +67,7 @@ def named(number):
 
 
 def headers(pairs, kind="plain"):
-    """`Cookie` headers of so many pairs."""
+    """`Cookie` headers of this number of pairs."""
     numbers = Numbers(6265 + pairs)
     text, sizes = {"plain": (numbers.text, ((3, 12), (8, 32))), "escapes": (numbers.escaped, ((1, 2), (2, 6)))}[kind]
 
@@ -83,7 +83,7 @@ def headers(pairs, kind="plain"):
 
 
 def long_value(size):
-    """A cookie whose value has so many bytes."""
+    """A cookie whose value has this number of bytes."""
     return "session=" + ("abcdefgh" * size)[:size]
 
 

@@ -32,7 +32,7 @@ def names(count):
 
 
 def pieces(form):
-    """A header of so many pieces of that form."""
+    """A header of this number of pieces of that form."""
     return lambda count: ["; ".join(form.format(it) for it in names(count))]
 
 
@@ -41,7 +41,7 @@ def lines(form):
 
 
 def value(text):
-    """The same cookie again and again, with a value of so many bytes of that text."""
+    """The same cookie again and again, with a value of this number of bytes of that text."""
     return lambda count: ["name=" + text * (count // len(text))] * TIMES
 
 

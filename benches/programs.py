@@ -158,7 +158,7 @@ class Bench:
         return int(self.run([counter, program, *words], lines)[1].split()[-1])
 
     def memory(self, program, words, lines, pattern=r"total heap usage: ([\d,]+) allocs"):
-        """How many blocks of memory a run asks for, or another number that memcheck tells."""
+        """How many blocks of memory a run allocates, or another number that memcheck prints."""
         said = self.run(["valgrind", "--tool=memcheck", program, *words], lines)[1]
         return int(re.search(pattern, said)[1].replace(",", ""))
 

@@ -102,7 +102,7 @@ def faults(is_check):
     here = [line for source in sorted((CRATE / "src").rglob("*.rt")) for line in exported(source.read_text())]
     there = list(declared(header))
     yield from (f"not in cookie.h: {line}" for line in here if line not in there)
-    yield from (f"in cookie.h alone: {line}" for line in there if line not in here)
+    yield from (f"only in cookie.h: {line}" for line in there if line not in here)
     yield from (f"twice: {line}" for line in sorted(set(there)) if there.count(line) > 1)
     statuses = sum(line.startswith("COOKIE_") and " = " in line for line in there)
     texts = re.search(r"texts\[\] = {(.*?)};", header, re.S)[1].count('",\n')
@@ -110,4 +110,4 @@ def faults(is_check):
         yield f"{statuses} statuses have {texts} texts"
     needed, made = set(drawing(there)), set(drawn((CRATE / "cookie_random.h").read_text()))
     yield from (f"not in cookie_random.h: {line}" for line in sorted(needed - made))
-    yield from (f"in cookie_random.h alone: {line}" for line in sorted(made - needed))
+    yield from (f"only in cookie_random.h: {line}" for line in sorted(made - needed))

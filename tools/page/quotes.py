@@ -22,7 +22,7 @@ def code_lines(text):
 
 
 def unquoted(page, sources, runs):
-    """The first line of each block of Rust code that stands in no crate, or of output in no stored run."""
+    """The first line of each block of Rust code that is in no crate, or of output that is in no stored run."""
     for kind, block in re.findall(r"^```(\w*)\n(.*?)^```", (ROOT / page).read_text(), re.M | re.S):
         known = [code_lines(block) in source for source in sources] if kind == "rust" else [block in run for run in runs]
         if (kind == "rust" or block.startswith("Set-Cookie: ")) and not any(known):

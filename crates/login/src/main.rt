@@ -63,7 +63,7 @@ fn open_once(rt: &HostRuntime, path: &str) -> Result<Revoked, RevocationError> {
     SqliteRevocations::new(Connection::open(rt, path)?)
 }
 
-// What a form asks for, or `None` if no user has its name and password.
+// What a form is for, or `None` if no user has its name and password.
 fn action_of(rt: &HostRuntime, form: &[u8]) -> Result<Option<Action>> {
     let (mut user, mut password) = (String::new(rt.alloc()), String::new(rt.alloc()));
     for pair in form_urlencoded::parse(rt.alloc(), form) {

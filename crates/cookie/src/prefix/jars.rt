@@ -80,7 +80,7 @@ impl CookieJar {
     /// Views the jar through a prefix, to look cookies up and to change it. It doesn't allocate.
     ///
     /// ```
-    /// jar.prefixed_mut(HostPrefix).add(Cookie::new("id", "7"))?;   // __Host-id=7; Secure; Path=/
+    /// jar.prefixed_mut(Host).add(Cookie::new("id", "7"))?;   // __Host-id=7; Secure; Path=/
     /// ```
     pub fn prefixed_mut<'a, P: Prefix>(&'a mut self, _prefix: P) -> PrefixedJarMut<'a, P>
         ensures same { Changes result self.entry }

@@ -135,7 +135,7 @@ impl Key {
     /// cryptographic generator.
     ///
     /// ```
-    /// let key = Key::try_generate(&mut SysRng).context("no random bytes")?;
+    /// let key = Key::try_generate(&mut SysRng::new(rt)).context("no random bytes")?;
     /// ```
     pub fn try_generate<R: TryRng>(rng: &mut R) -> Option<Key>
         ensures drawn { IfSome result (λ key. R.may_fill rng.old key rng.new) }
